@@ -1,2 +1,3 @@
 pub mod Ranges
 pub mod Sheet
+pub mod Text
