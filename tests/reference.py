@@ -1,0 +1,410 @@
+#!/usr/bin/env python3
+"""Loop sheets and interval plans as document 01 words them, by plain enumeration.
+
+Independent of the Rattle crates: nothing here is taken from their code, their algorithms or their
+outputs. Sheets are read with a regular expression for each kind of line; plans, instances and closed
+walks are found by listing candidates in the order of the paper and taking the first that keeps the
+rules. The only cuts are: a prefix of a candidate that already breaks a rule is not continued, more
+operations of a type in one slot than it has instances count as such a break, and a bad closed walk
+is looked for up to N edges (a longer one passes an operation twice and so splits into two closed
+walks, one of them bad). So it is slow, and for small sheets only.
+
+As a program:  reference.py < SHEET   prints what leastplan prints.
+"""
+
+import re
+import sys
+
+SHEET_BYTES = 4096
+
+# The table of field ranges; r, i and j go by the sheet.
+RANGES = {
+    "H": (1, 128),
+    "M": (1, 64),
+    "R": (1, 8),
+    "A": (0, 8),
+    "D": (0, 32),
+    "N": (1, 24),
+    "E": (0, 96),
+    "d": (-64, 64),
+    "b": (0, 8),
+}
+
+PLAIN = rb"(0|[1-9][0-9]{0,3})"
+SIGNED = rb"(0|-?[1-9][0-9]{0,3})"
+
+
+class Sheet:
+    """A sheet as numbers: types are (A, D), operations are type numbers, edges are (i, j, d, b)."""
+
+    def __init__(self, horizon, cap, types, ops, edges):
+        self.horizon, self.cap = horizon, cap
+        self.types, self.ops, self.edges = list(types), list(ops), list(edges)
+
+
+# ---- reading and writing (questions 1 to 3, 9)
+
+
+class Refused(Exception):
+    """The first question answered "no"."""
+
+    def __init__(self, answer):
+        super().__init__(answer)
+        self.answer = answer
+
+
+class Lines:
+    """The lines of a sheet from the top: 2 before 3 within a line."""
+
+    def __init__(self, data):
+        self.data, self.at = data, 0
+
+    def take(self, key, fields, limits):
+        end = self.data.find(b"\n", self.at)
+        if end < 0:
+            raise Refused(2)
+        numbers = [SIGNED if f == "d" else PLAIN for f in fields]
+        found = re.fullmatch(key + b"=" + b",".join(numbers), self.data[self.at : end], re.DOTALL)
+        if not found:
+            raise Refused(2)
+        self.at = end + 1
+        values = [int(v) for v in found.groups()]
+        for value, (low, high) in zip(values, limits):
+            if not low <= value <= high:
+                raise Refused(3)
+        return values
+
+    def one(self, key, field):
+        return self.take(key, field, [RANGES[field]])[0]
+
+
+def read_lines(lines):
+    horizon = lines.one(b"horizon", "H")
+    cap = lines.one(b"cap", "M")
+    count = lines.one(b"types", "R")
+    types = [tuple(lines.take(b"type", "AD", [RANGES["A"], RANGES["D"]])) for _ in range(count)]
+    n = lines.one(b"ops", "N")
+    ops = [lines.take(b"op", "r", [(0, count - 1)])[0] for _ in range(n)]
+    e = lines.one(b"edges", "E")
+    limits = [(0, n - 1), (0, n - 1), RANGES["d"], RANGES["b"]]
+    edges = [tuple(lines.take(b"edge", "ijdb", limits)) for _ in range(e)]
+    return Sheet(horizon, cap, types, ops, edges)
+
+
+def read_sheet(data):
+    """(0, sheet), or the refusal 1, 2 or 3 and None."""
+    if len(data) > SHEET_BYTES:
+        return 1, None
+    lines = Lines(data)
+    try:
+        sheet = read_lines(lines)
+    except Refused as refusal:
+        return refusal.answer, None
+    if lines.at != len(data):
+        return 2, None
+    return 0, sheet
+
+
+def sheet_text(sheet):
+    rows = ["horizon=%d" % sheet.horizon, "cap=%d" % sheet.cap, "types=%d" % len(sheet.types)]
+    rows += ["type=%d,%d" % t for t in sheet.types]
+    rows += ["ops=%d" % len(sheet.ops)]
+    rows += ["op=%d" % r for r in sheet.ops]
+    rows += ["edges=%d" % len(sheet.edges)]
+    rows += ["edge=%d,%d,%d,%d" % e for e in sheet.edges]
+    return "".join(row + "\n" for row in rows).encode()
+
+
+# ---- rules of a plan
+
+
+def latency(sheet, i):
+    return sheet.types[sheet.ops[i]][1]
+
+
+def instances_of(sheet, i):
+    return sheet.types[sheet.ops[i]][0]
+
+
+def total(sheet, interval, edge):
+    i, _, d, b = edge
+    return latency(sheet, i) + d - b * interval
+
+
+def dependence_kept(sheet, interval, edge, starts):
+    i, j = edge[0], edge[1]
+    return starts[i] + total(sheet, interval, edge) <= starts[j]
+
+
+def rivals(sheet, i, j):
+    return i != j and sheet.ops[i] == sheet.ops[j] and instances_of(sheet, i) != 0
+
+
+def instance_range(sheet, i):
+    return range(instances_of(sheet, i) or 1)
+
+
+def is_plan(sheet, interval, starts, units):
+    n = len(sheet.ops)
+    return (
+        all(0 <= t < sheet.horizon for t in starts)
+        and all(dependence_kept(sheet, interval, e, starts) for e in sheet.edges)
+        and all(units[i] in instance_range(sheet, i) for i in range(n))
+        and not any(
+            rivals(sheet, i, j) and units[i] == units[j] and starts[i] % interval == starts[j] % interval
+            for i in range(n)
+            for j in range(i)
+        )
+    )
+
+
+# ---- the first plan
+
+
+def first_list(choices, fits):
+    """The first list, in the order of the choices, each prefix of which fits; None without one."""
+    chosen = []
+
+    def extend():
+        if len(chosen) == len(choices):
+            return True
+        for value in choices[len(chosen)]:
+            chosen.append(value)
+            if fits(chosen) and extend():
+                return True
+            chosen.pop()
+        return False
+
+    return chosen if extend() else None
+
+
+def slot_has_room(sheet, interval, starts):
+    """No more rivals of the last placed operation in its slot than it has instances."""
+    last = len(starts) - 1
+    slot = starts[last] % interval
+    shared = [i for i in range(last) if rivals(sheet, i, last) and starts[i] % interval == slot]
+    return not shared or len(shared) < instances_of(sheet, last)
+
+
+def first_instances(sheet, interval, starts):
+    def fits(units):
+        last = len(units) - 1
+        return not any(
+            rivals(sheet, i, last)
+            and units[i] == units[last]
+            and starts[i] % interval == starts[last] % interval
+            for i in range(last)
+        )
+
+    return first_list([instance_range(sheet, i) for i in range(len(sheet.ops))], fits)
+
+
+def first_plan(sheet, interval):
+    """(starts, instances) of the plan before every other, or None."""
+    found = []
+
+    def fits(starts):
+        last = len(starts) - 1
+        for edge in sheet.edges:
+            if max(edge[0], edge[1]) == last and not dependence_kept(sheet, interval, edge, starts):
+                return False
+        if not slot_has_room(sheet, interval, starts):
+            return False
+        if len(starts) < len(sheet.ops):
+            return True
+        units = first_instances(sheet, interval, starts)
+        if units is not None:
+            found.append(units)
+        return units is not None
+
+    starts = first_list([range(sheet.horizon)] * len(sheet.ops), fits)
+    return None if starts is None else (list(starts), found[0])
+
+
+# ---- bad closed walks
+
+
+def chains(sheet, length):
+    """The chains of that many edges, as lists of edge numbers, in their order."""
+    edges = sheet.edges
+
+    def extend(chain):
+        if len(chain) == length:
+            yield list(chain)
+            return
+        for k, edge in enumerate(edges):
+            if not chain or edges[chain[-1]][1] == edge[0]:
+                chain.append(k)
+                yield from extend(chain)
+                chain.pop()
+
+    yield from extend([])
+
+
+def first_bad_walk(sheet, interval):
+    """The bad closed walk with the fewest edges, the first of those; None without one."""
+    edges = sheet.edges
+    sums = [total(sheet, interval, e) for e in edges]
+    for length in range(1, len(sheet.ops) + 1):
+        for chain in chains(sheet, length):
+            closed = edges[chain[0]][0] == edges[chain[-1]][1]
+            if closed and sum(sums[k] for k in chain) > 0:
+                return chain
+    return None
+
+
+# ---- services
+
+
+def plan_at(sheet, interval):
+    """(answer, starts, instances, loop); what an answer does not give is empty."""
+    if not 1 <= interval <= sheet.cap:
+        return 4, [], [], []
+    loop = first_bad_walk(sheet, interval)
+    if loop is not None:
+        return 5, [], [], loop
+    plan = first_plan(sheet, interval)
+    if plan is None:
+        return 6, [], [], []
+    return 0, plan[0], plan[1], []
+
+
+def least_interval(sheet):
+    for interval in range(1, sheet.cap + 1):
+        if plan_at(sheet, interval)[0] == 0:
+            return 0, interval
+    return 7, 0
+
+
+def recurrence_bound(sheet):
+    for interval in range(1, sheet.cap + 1):
+        if first_bad_walk(sheet, interval) is None:
+            return 0, interval
+    return 8, 0
+
+
+def resource_bound(sheet):
+    bound = 1
+    for r, (a, _) in enumerate(sheet.types):
+        if a != 0:
+            bound = max(bound, -(-sheet.ops.count(r) // a))
+    return bound
+
+
+def interval_lines(interval, plan):
+    """The lines that leastplan prints for one interval."""
+    answer, starts, units, loop = plan
+    rows = ["answer=%d" % answer, "interval=%d" % interval]
+    if answer == 5:
+        rows.append("loop=" + ",".join(str(k) for k in loop))
+    rows += ["at=%d,%d" % at for at in zip(starts, units)]
+    return "".join(row + "\n" for row in rows).encode()
+
+
+def plan_text(sheet, interval):
+    """(answer, text): the text only with 0."""
+    plan = plan_at(sheet, interval)
+    return plan[0], interval_lines(interval, plan) if plan[0] == 0 else b""
+
+
+def report(sheet):
+    """What leastplan prints for an accepted sheet."""
+    out = b""
+    for interval in range(1, sheet.cap + 1):
+        plan = plan_at(sheet, interval)
+        out += interval_lines(interval, plan)
+        if plan[0] == 0:
+            return out
+    return out + b"answer=7\n"
+
+
+def leastplan(data):
+    """The whole output of leastplan for the bytes of its standard input."""
+    answer, sheet = read_sheet(data)
+    return b"answer=%d\n" % answer if answer else report(sheet)
+
+
+# ---- slot order
+
+
+def pair_members(pair):
+    """The operations i < j with j * (j - 1) / 2 + i = pair."""
+    j = 1
+    while j * (j + 1) // 2 <= pair:
+        j += 1
+    return pair - j * (j - 1) // 2, j
+
+
+def slot_order(sheet, interval, pair):
+    """(answer, order)"""
+    answer, starts, _, _ = plan_at(sheet, interval)
+    if answer:
+        return answer, 0
+    n = len(sheet.ops)
+    if pair >= n * (n - 1) // 2:
+        return 14, 0
+    i, j = pair_members(pair)
+    if not rivals(sheet, i, j):
+        return 15, 0
+    a, b = starts[i] % interval, starts[j] % interval
+    return 0, 0 if a == b else 1 if a < b else 2
+
+
+# ---- placing: a table is a list of 24 entries (placed, start, instance)
+
+MOST_OPERATIONS = 24
+
+
+def new_table():
+    return [(False, 0, 0)] * MOST_OPERATIONS
+
+
+def consistent(sheet, interval, table):
+    n = len(sheet.ops)
+    for i, (placed, start, unit) in enumerate(table):
+        if not placed and (start, unit) != (0, 0):
+            return False
+        if placed and i >= n:
+            return False
+        if placed and not (0 <= start < sheet.horizon and unit in instance_range(sheet, i)):
+            return False
+    return not any(
+        table[i][0]
+        and table[j][0]
+        and rivals(sheet, i, j)
+        and table[i][2] == table[j][2]
+        and table[i][1] % interval == table[j][1] % interval
+        for i in range(n)
+        for j in range(i)
+    )
+
+
+def place(sheet, interval, table, op, start):
+    """(answer, instance, table); the table is the same with a refusal."""
+    if not 1 <= interval <= sheet.cap:
+        return 4, 0, table
+    if not consistent(sheet, interval, table):
+        return 10, 0, table
+    if not (0 <= op < len(sheet.ops) and 0 <= start < sheet.horizon):
+        return 11, 0, table
+    if table[op][0]:
+        return 12, 0, table
+    taken = [
+        table[i][2]
+        for i in range(len(sheet.ops))
+        if table[i][0] and rivals(sheet, i, op) and table[i][1] % interval == start % interval
+    ]
+    for unit in instance_range(sheet, op):
+        if unit not in taken:
+            after = list(table)
+            after[op] = (True, start, unit)
+            return 0, unit, after
+    return 13, 0, table
+
+
+def main():
+    sys.stdout.buffer.write(leastplan(sys.stdin.buffer.read()))
+
+
+if __name__ == "__main__":
+    main()
