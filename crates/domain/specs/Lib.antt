@@ -1,0 +1,4 @@
+pub mod Domain
+pub mod Rows
+pub mod Split
+pub mod First

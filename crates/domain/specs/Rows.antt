@@ -1,0 +1,25 @@
+-- Laws of the row functions. Assumes nothing.
+use mathlib.Core.Path.{_≡_, sym, _∙_}
+use mathlib.Core.Bool.{Bool, true, false}
+use mathlib.Core.Logic.{_≢_}
+use mathlib.Core.List.{List}
+use Prim.Native.Nat.{ℕ, _<_}
+use native.Mathlib.Decide.{ℕ-discrete}
+use lib.ListN.{set, length}
+use lib.Seq.{getD-set-same, getD-set-other}
+use Rattle.laws.specs.Z.{true-false}
+use Rattle.domain.specs.Domain.{has, Only}
+
+pub same-class : (a b : ℕ) → (a ≢ b → ⊥) → a ≡ b
+same-class a b h = pick (ℕ-discrete a b)
+  where
+    pick : Dec (a ≡ b) → a ≡ b
+    pick (yes e) = e
+    pick (no n) = absurd (h n)
+
+pub only-set : (l : List Bool) (x : ℕ) → ((k : ℕ) → k < 128 → has l k ≡ false) → x < length l → Only x (set l x true)
+only-set l x none h = record { here = getD-set-same l x true false h; other = λ t m b. pick t m b (ℕ-discrete t x) }
+  where
+    pick : (t : ℕ) → t < 128 → has (set l x true) t ≡ true → Dec (t ≡ x) → t ≡ x
+    pick t m b (yes e) = e
+    pick t m b (no n) = true-false (sym b ∙ getD-set-other l x t true false n ∙ none t m)

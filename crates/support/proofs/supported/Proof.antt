@@ -1,0 +1,94 @@
+use mathlib.Core.Path.{_≡_}
+use mathlib.Core.Bool.{false}
+use Prim.Native.Nat.{ℕ, _≤_, _<_, _-_}
+use native.Mathlib.Omega.{arith}
+use lib.ListN.{length, length-set}
+use mir.Syntax.{w32}
+use mir.Val.{toZ, ofZ}
+use borrow.Author.Needs.{needs}
+use Rattle.laws.specs.Store.{store-more}
+use Rattle.laws.specs.Z.{kept}
+use Rattle.domain.specs.Domain.{has}
+use Rattle.support.specs.Support.{At}
+use Rattle.support.specs.SupportLaws.{supported-at, supported-all}
+use Rattle.support.proofs.supported.Statement.{statement}
+use Rattle.support.proofs.supported.Tie as tie
+
+abbrev Inv-loop : tie.InvT-loop
+Inv-loop there back next row out₀ t₀ out t = (t ≤ 128) × (length out ≡ 128) × ((k : ℕ) → k < t → At next (has row k) (toZ w32 there) (toZ w32 back) k (has out k))
+
+abbrev μ-loop : tie.MeasureT-loop
+μ-loop there back next row out₀ t₀ out t = 128 - t
+
+-- src/lib.rt:84:5
+loop-holds : tie.Need-loop-holds Inv-loop μ-loop
+loop-holds c = (omega arith, search needs, λ k l. absurd (omega arith))
+
+-- src/lib.rt:85:17
+array-read-b : tie.Need-array-read-b Inv-loop μ-loop
+array-read-b c = search needs
+
+-- src/lib.rt:86:13
+low-end-if-requires : tie.Need-low-end-if-requires Inv-loop μ-loop
+low-end-if-requires c κs = search needs
+
+-- src/lib.rt:87:13
+high-end-if-requires : tie.Need-high-end-if-requires Inv-loop μ-loop
+high-end-if-requires c κs = search needs
+
+-- src/lib.rt:88:34
+mul-under : tie.Need-mul-under Inv-loop μ-loop
+mul-under c = search needs
+
+-- src/lib.rt:88:34
+array-read-under : tie.Need-array-read-under Inv-loop μ-loop
+array-read-under c = search needs
+
+-- src/lib.rt:88:18
+under-requires : tie.Need-under-requires Inv-loop μ-loop
+under-requires c κs = search needs
+
+-- src/lib.rt:88:9
+array-write-out : tie.Need-array-write-out Inv-loop μ-loop
+array-write-out c = search needs
+
+-- src/lib.rt:89:9
+add-t : tie.Need-add-t Inv-loop μ-loop
+add-t c = search needs
+
+-- src/lib.rt:84:5
+loop-less : tie.Need-loop-less Inv-loop μ-loop
+loop-less c = search needs
+
+-- src/lib.rt:84:5
+loop-again : tie.Need-loop-again Inv-loop μ-loop
+loop-again c = let l = c .before .before .before .before .loop in let s = c .before .before .before .before .before in (
+  omega arith,
+  simp length-set (l .inv .1),
+  store-more (λ k z. At (s .args .t1) (has (s .args .t2) k) (toZ w32 (ofZ w32 (s .args .there))) (toZ w32 (ofZ w32 (s .args .back))) k z) (l .out) (l .t) _ false (omega (arith, l .inv .1))
+      (supported-at _ _ (c .before .before .low-end-if .ensures) (c .before .high-end-if .ensures) (c .under .ensures)) (l .inv .2),
+)
+
+-- src/lib.rt:78:1
+returns : tie.Need-returns Inv-loop μ-loop
+returns c = let s = c .before .before in let l = c .before .loop in
+    supported-all (λ t h. rw (kept (s .fits .there), kept (s .fits .back)) at (l .inv .2 t (omega arith)))
+
+pub supported-spec : {M : Type 1} → statement M
+supported-spec =
+    tie.close
+    (tie.spec
+    Inv-loop
+    μ-loop
+    loop-holds
+    array-read-b
+    low-end-if-requires
+    high-end-if-requires
+    mul-under
+    array-read-under
+    under-requires
+    array-write-out
+    add-t
+    loop-less
+    loop-again
+    returns)

@@ -1,0 +1,55 @@
+-- Rule 1: a start stays only where the other operation has a start that keeps both lags with it. Assumes nothing.
+use mathlib.Core.Path.{_≡_}
+use mathlib.Core.Bool.{Bool, true, false}
+use mathlib.Core.List.{List}
+use Prim.Native.Nat.{ℕ, _≤_, _<_}
+use lib.IntN.{ℤ, pos, negsuc, _+ℤ_}
+use lib.Signed.{_≤ℤ_, _<ℤ_}
+use Rattle.domain.specs.Domain.{has, val, Part}
+
+-- a lag within a million of 0
+pub record Far (z : ℤ) : Type 0 where
+  pub low : negsuc 999999 ≤ℤ z
+  pub high : z ≤ℤ pos 1000000
+
+pub record Clip (z : ℤ) (r : ℕ) : Type 0 where
+  pub within : r ≤ 128
+  pub low : (x : ℕ) → z ≤ℤ pos x → r ≤ x
+  pub high : (x : ℕ) → x < 128 → pos x <ℤ z → x < r
+
+-- no start x with t + lag ≤ x is below r
+pub record LowEnd (t : ℕ) (lag : ℤ) (r : ℕ) : Type 0 where
+  pub within : r ≤ 128
+  pub low : (x : ℕ) → x < 128 → (pos t +ℤ lag) ≤ℤ pos x → r ≤ x
+
+-- each start x with x + lag ≤ t is below r
+pub record HighEnd (t : ℕ) (lag : ℤ) (r : ℕ) : Type 0 where
+  pub high : (x : ℕ) → x < 128 → (pos x +ℤ lag) ≤ℤ pos t → x < r
+
+pub record LowIf (b : Bool) (t : ℕ) (lag : ℤ) (r : ℕ) : Type 0 where
+  pub within : r ≤ 128
+  pub when : b ≡ true → LowEnd t lag r
+
+pub record HighIf (b : Bool) (t : ℕ) (lag : ℤ) (r : ℕ) : Type 0 where
+  pub when : b ≡ true → HighEnd t lag r
+
+pub record Earlier (b : Bool) (a later r : ℕ) : Type 0 where
+  pub yes : b ≡ true → r ≡ a
+  pub no : b ≡ false → r ≡ later
+
+-- from a on, entry k is no more than any start of the row that is at least k
+pub record NextFrom (q : List Bool) (a : ℕ) (next : List ℕ) : Type 0 where
+  pub upto : (k : ℕ) → a ≤ k → k ≤ 128 → (x : ℕ) → k ≤ x → x < 128 → has q x ≡ true → val next k ≤ x
+
+-- the row r has the starts of `row` that some start of q supports
+pub record Supported (q row : List Bool) (there back : ℤ) (r : List Bool) : Type 0 where
+  pub was : Part r row
+  pub stays : (x t : ℕ) → x < 128 → t < 128 → has q x ≡ true → has row t ≡ true → (pos x +ℤ there) ≤ℤ pos t → (pos t +ℤ back) ≤ℤ pos x → has r t ≡ true
+
+pub record SupportedBy (next : List ℕ) (row : List Bool) (there back : ℤ) (r : List Bool) : Type 0 where
+  pub by : (q : List Bool) → NextFrom q 0 next → Supported q row there back r
+
+-- the same for one start
+pub record At (next : List ℕ) (b : Bool) (there back : ℤ) (t : ℕ) (r : Bool) : Type 0 where
+  pub was : r ≡ true → b ≡ true
+  pub stays : (q : List Bool) → NextFrom q 0 next → (x : ℕ) → x < 128 → has q x ≡ true → b ≡ true → (pos x +ℤ there) ≤ℤ pos t → (pos t +ℤ back) ≤ℤ pos x → r ≡ true
