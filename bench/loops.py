@@ -1,0 +1,181 @@
+#!/usr/bin/env python3
+"""Generators of 24-operation loop sheets for the benchmarks, from a seed.
+
+layered      layer by layer as in the GeMS paper (source 002): one type with two instances and latency 1,
+             forward edges with probability 0.05, backedges with 0.005 and distance 1, delays 0
+motor        transforms, controllers and filters of motor control, with integrators and outer feedback
+deadlines    loops whose operations must follow others within a time, by edges with a negative delay
+packing      as many operations of each type as its instances hold at the wanted interval, starts confined
+recurrences  many backedges of distance 1 to 3
+
+As a program:  loops.py FAMILY SEED   prints one sheet.
+"""
+
+import os
+import random
+import sys
+
+sys.path.insert(0, os.path.join(os.path.dirname(os.path.abspath(__file__)), "..", "tests"))
+
+from reference import Sheet, resource_bound, sheet_text
+
+OPERATIONS = 24
+MOST_EDGES = 96
+
+
+def earliest(latencies, edges):
+    """Starts by the forward edges alone; every edge leads to a greater operation number."""
+    starts = [0] * len(latencies)
+    for i, j, d, _ in sorted(edges):
+        starts[j] = max(starts[j], starts[i] + latencies[i] + d)
+    return starts
+
+
+def span(sheet):
+    """Clocks from the first start to the last result along the forward edges."""
+    latencies = [sheet.types[r][1] for r in sheet.ops]
+    forward = [e for e in sheet.edges if e[0] < e[1] and e[3] == 0]
+    starts = earliest(latencies, forward)
+    return max(t + d for t, d in zip(starts, latencies))
+
+
+def fitted(rng, types, ops, edges, room):
+    """The sheet with a horizon of its span and some room, and a cap some way past the resource bound."""
+    sheet = Sheet(1, 1, types, ops, edges[:MOST_EDGES])
+    bound = resource_bound(sheet)
+    sheet.horizon = min(128, max(1, span(sheet) + rng.randint(0, room) + bound))
+    sheet.cap = min(64, bound + 16)
+    return sheet
+
+
+def layered(rng):
+    layers = rng.choice([24, 12, 8, 6, 4, 3, 2, 1])
+    depth = [i * layers // OPERATIONS for i in range(OPERATIONS)]
+    pairs = [(i, j) for i in range(OPERATIONS) for j in range(OPERATIONS)]
+    edges = [(i, j, 0, 0) for i, j in pairs if depth[i] < depth[j] and rng.random() < 0.05]
+    starts = earliest([1] * OPERATIONS, edges)
+    edges += [(i, j, 0, 1) for i, j in pairs if starts[i] > starts[j] and rng.random() < 0.005]
+    return fitted(rng, [(2, 1)], [0] * OPERATIONS, edges, 12)
+
+
+MULTIPLIER, ADDER, PORT = 0, 1, 2
+
+
+class Loop:
+    """Operations and edges of a motor-control loop, put together from its parts."""
+
+    def __init__(self):
+        self.ops, self.edges = [], []
+
+    def op(self, kind, *sources):
+        self.ops.append(kind)
+        me = len(self.ops) - 1
+        self.edges += [(s, me, 0, 0) for s in sources]
+        return me
+
+    def back(self, i, j, distance):
+        self.edges.append((i, j, 0, distance))
+
+    def rotation(self, x, y):
+        a = self.op(ADDER, self.op(MULTIPLIER, x), self.op(MULTIPLIER, y))
+        b = self.op(ADDER, self.op(MULTIPLIER, y), self.op(MULTIPLIER, x))
+        return a, b
+
+    def controller(self, x):
+        error = self.op(ADDER, x)
+        integral = self.op(ADDER, self.op(MULTIPLIER, error))
+        self.back(integral, integral, 1)
+        return self.op(ADDER, self.op(MULTIPLIER, error), integral)
+
+    def low_pass(self, x):
+        change = self.op(ADDER, x)
+        out = self.op(ADDER, self.op(MULTIPLIER, change))
+        self.back(out, change, 1)
+        return out
+
+
+def motor(rng):
+    loop = Loop()
+    signals = [loop.op(PORT) for _ in range(rng.randint(1, 3))]
+    while len(loop.ops) < OPERATIONS - 7:
+        part = rng.choice(["rotation", "controller", "controller", "low_pass", "port"])
+        x, y = rng.choice(signals), rng.choice(signals)
+        if part == "rotation":
+            signals += loop.rotation(x, y)
+        elif part == "port":
+            signals.append(loop.op(PORT, x))
+        else:
+            signals.append(getattr(loop, part)(x))
+    while len(loop.ops) < OPERATIONS:
+        signals.append(loop.op(rng.choice([MULTIPLIER, ADDER, PORT]), rng.choice(signals)))
+    for _ in range(rng.randint(0, 3)):
+        i, j = rng.choice(signals), rng.choice(signals)
+        loop.back(max(i, j), min(i, j), rng.choice([1, 2, 2, 3]))
+    types = [(rng.choice([1, 1, 2, 3]), rng.choice([2, 3, 4])), (rng.choice([1, 1, 2]), 1), (1, rng.choice([1, 2]))]
+    return fitted(rng, types, loop.ops, loop.edges, rng.choice([0, 4, 16]))
+
+
+def some_types(rng, count):
+    return [(rng.choice([1, 1, 2, 3]), rng.choice([0, 1, 1, 2, 3])) for _ in range(count)]
+
+
+def deadlines(rng):
+    types = some_types(rng, rng.randint(1, 4))
+    ops = [rng.randrange(len(types)) for _ in range(OPERATIONS)]
+    edges = []
+    for j in range(1, OPERATIONS):
+        for i in rng.sample(range(j), min(j, rng.choice([0, 1, 1, 2]))):
+            edges.append((i, j, rng.choice([0, 0, 1]), 0))
+    for i, j, d, _ in list(edges):
+        if rng.random() < 0.5:
+            slack = types[ops[i]][1] + d + rng.randint(1, 8)
+            edges.append((j, i, max(-64, -slack - types[ops[j]][1]), 0))
+    return fitted(rng, types, ops, edges, rng.choice([2, 8]))
+
+
+def packing(rng):
+    interval = rng.choice([4, 6, 8, 12])
+    types, ops = [], []
+    while len(ops) < OPERATIONS and len(types) < 8:
+        room = OPERATIONS - len(ops)
+        a = rng.choice([a for a in (1, 2, 3) if a * interval <= room] or [1])
+        types.append((a, rng.choice([0, 1, 2])))
+        ops += [len(types) - 1] * min(room, a * interval)
+    rng.shuffle(ops)
+    edges = []
+    for j in range(1, OPERATIONS):
+        if rng.random() < 0.5:
+            edges.append((rng.randrange(j), j, 0, 0))
+    for _ in range(rng.randint(2, 8)):
+        i, j = rng.sample(range(OPERATIONS), 2)
+        edges.append((i, j, -rng.randint(2, interval + 2), 0))
+    return fitted(rng, types, ops, edges, 4)
+
+
+def recurrences(rng):
+    types = some_types(rng, rng.randint(1, 3))
+    ops = [rng.randrange(len(types)) for _ in range(OPERATIONS)]
+    edges = []
+    for j in range(1, OPERATIONS):
+        edges.append((rng.randrange(max(0, j - 6), j), j, 0, 0))
+    for _ in range(rng.randint(16, 60)):
+        i, j = rng.randrange(OPERATIONS), rng.randrange(OPERATIONS)
+        edges.append((max(i, j), min(i, j), rng.choice([0, 0, -1, 1]), rng.choice([1, 1, 2, 3])))
+    return fitted(rng, types, ops, edges, rng.choice([4, 16]))
+
+
+FAMILIES = {"layered": layered, "motor": motor, "deadlines": deadlines, "packing": packing, "recurrences": recurrences}
+
+
+def sheet_of(family, seed):
+    return FAMILIES[family](random.Random("%s %d" % (family, seed)))
+
+
+def main():
+    if len(sys.argv) != 3 or sys.argv[1] not in FAMILIES:
+        sys.exit("usage: loops.py %s SEED" % "|".join(FAMILIES))
+    sys.stdout.buffer.write(sheet_text(sheet_of(sys.argv[1], int(sys.argv[2]))))
+
+
+if __name__ == "__main__":
+    main()
