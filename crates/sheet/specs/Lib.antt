@@ -1,3 +1,6 @@
 pub mod Ranges
+pub mod Table
 pub mod Sheet
+pub mod Tests
+pub mod Facts
 pub mod Text

@@ -47,8 +47,12 @@ delay = 7
 abbrev pub distance : ℕ
 distance = 8
 
+-- no number is in it
+abbrev pub noRange : Range
+noRange = record { low = pos 1; high = pos 0 }
+
 abbrev pub rangeOf : ℕ → Range
-rangeOf field = getD ranges field (record { low = pos 0; high = pos 0 })
+rangeOf field = getD ranges field noRange
 
 -- the number is in the range of the field
 pub record Inside (field : ℕ) (z : ℤ) : Type 0 where

@@ -1,6 +1,6 @@
 -- A loop sheet as the rules read it, when it is in range, and its dependence graph.
 use Prim.Native.Nat.{ℕ, _<_, _≤_}
-use mathlib.Core.List.{map}
+use mathlib.Core.List.{List, map}
 use lib.ListN.{getD}
 use lib.IntN.{pos}
 use Rattle.dependence.specs.declared.Edge.{Edge}
@@ -46,14 +46,18 @@ pub record EdgeInRange (ops : ℕ) (e : Edge) : Type 0 where
   pub delay : range.Inside range.delay (e .delay)
   pub distance : range.Inside range.distance (pos (e .distance))
 
-pub record InRange (s : Sheet) : Type 0 where
+-- horizon, cap and the counts
+pub record CountsInRange (s : Sheet) : Type 0 where
   pub horizon : range.Inside range.horizon (pos (s .horizon))
   pub cap : range.Inside range.cap (pos (s .cap))
   pub types : range.Inside range.types (pos (s .«type_count»))
-  pub eachType : (r : ℕ) → r < s .«type_count» → TypeInRange (typeAt s r)
   pub ops : range.Inside range.operations (pos (s .«op_count»))
-  pub eachOp : (i : ℕ) → i < s .«op_count» → opAt s i .resource < s .«type_count»
   pub edges : range.Inside range.edges (pos (s .«edge_count»))
+
+pub record InRange (s : Sheet) : Type 0 where
+  pub counts : CountsInRange s
+  pub eachType : (r : ℕ) → r < s .«type_count» → TypeInRange (typeAt s r)
+  pub eachOp : (i : ℕ) → i < s .«op_count» → opAt s i .resource < s .«type_count»
   pub eachEdge : (k : ℕ) → k < s .«edge_count» → EdgeInRange (s .«op_count») (edgeAt s k)
 
 -- question 4: the interval (initiation interval) is in 1 to the cap
@@ -61,11 +65,15 @@ pub record Interval (s : Sheet) (L : ℕ) : Type 0 where
   pub low : 1 ≤ L
   pub high : L ≤ s .cap
 
+-- each operation's latency, by its type
+abbrev pub latenciesOf : List ResourceType → List Operation → List ℕ
+latenciesOf types ops = map (λ (o : Operation). getD types (o .resource) noType .latency) ops
+
 -- the sheet's dependence graph: of the types it keeps only each operation's latency
 abbrev pub graphOf : Sheet → Graph
 graphOf s = record {
   ops = s .«op_count»;
-  latency = map (λ (o : Operation). typeAt s (o .resource) .latency) (s .ops);
+  latency = latenciesOf (s .types) (s .ops);
   «edge_count» = s .«edge_count»;
   edges = s .edges;
 }
