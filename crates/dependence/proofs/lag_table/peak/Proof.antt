@@ -1,0 +1,16 @@
+use borrow.Author.Needs.{needs}
+use Rattle.dependence.specs.Lag.{peak-law}
+use Rattle.dependence.proofs.lag_table.peak.Statement.{statement}
+use Rattle.dependence.proofs.lag_table.peak.Tie as tie
+
+mul-f : tie.Need-mul-f
+mul-f c = search needs
+
+array-write-f : tie.Need-array-write-f
+array-write-f c = search needs
+
+returns : tie.Need-returns
+returns c = peak-law (c .args .i) (c .pre)
+
+pub peak-spec : {M : Type 1} → statement M
+peak-spec = tie.close (tie.spec mul-f array-write-f returns)

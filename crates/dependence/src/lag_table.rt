@@ -1,0 +1,68 @@
+// Lags: how much later, at least, each operation starts than each other, in any starts that meet every dependence. The plan search uses them.
+ghost use mathlib.Core.Path.{_≡_};
+ghost use Prim.Native.Nat.{_≤_, _<_};
+ghost use lib.IntN.{pos, _-ℤ_};
+ghost use Rattle.net.specs.Net.{Below};
+ghost use Rattle.dependence.specs.Answer.{TableAnswer, Lags};
+ghost use Rattle.dependence.specs.Lag.{LagCells, PeakList};
+use crate::Graph;
+use crate::questions::in_range;
+use crate::questions::interval_ok;
+use crate::totals::net_of;
+use net::settle;
+
+// The floor 16384 at i, and 0 elsewhere.
+fn peak(i: usize) -> [usize; 24]
+    requires { ⌜ i < 24 ⌝ }
+    ensures { λ r. ⌜ PeakList i r ⌝ }
+{
+    let mut f = [0usize; 24];
+    f[i] = 16384;
+    f
+}
+
+fn lag(at: usize) -> i32
+    requires { ⌜ at ≤ 2000000 ⌝ }
+    ensures { λ r. ⌜ r ≡ pos at -ℤ pos 16384 ⌝ }
+{
+    at as i32 - 16384
+}
+
+fn lag_row(ops: usize, starts: [usize; 24]) -> [i32; 24]
+    requires { ⌜ (ops ≤ 24) × Below 2000000 starts ⌝ }
+    ensures { λ r. ⌜ LagCells ops starts r ⌝ }
+{
+    let mut out = [0i32; 24];
+    let mut j: usize = 0;
+    while j < ops {
+        out[j] = lag(starts[j]);
+        j += 1;
+    }
+    out
+}
+
+// Cell i j: how much later, at least, j starts than i, in any starts up to 16384 that meet every dependence. As with `separations`, the answer's
+// number is that of `bad_walk`.
+pub fn lags(graph: Graph, interval: usize) -> [[i32; 24]; 24]
+    ensures { λ r. ⌜ TableAnswer graph interval (Lags graph interval) r ⌝ }
+{
+    let mut out = [[0i32; 24]; 24];
+    if in_range(graph) {
+        if interval_ok(interval) {
+            let net = net_of(graph, interval);
+            let ops = graph.ops;
+            let mut i: usize = 0;
+            while i < ops {
+                let f = peak(i);
+                let s = settle(net, f);
+                if s.bad {
+                    return [[0; 24]; 24];
+                }
+                let at = s.at;
+                out[i] = lag_row(ops, at);
+                i += 1;
+            }
+        }
+    }
+    out
+}

@@ -1,0 +1,98 @@
+// A net: numbered edges between operations, each with a weight of its own, and the earliest starts over a floor.
+// This is an inner layer of `dependence`, in a crate of its own so that each is checked in under a minute. Its functions have a `requires`. The
+// callers are `walks` and `dependence`: a net comes from `dependence::totals::net_of` alone, whose contract gives `NetOk`.
+ghost use mathlib.Core.Path.{_≡_};
+ghost use Prim.Native.Nat.{_≤_};
+ghost use lib.IntN.{pos, negsuc, _+ℤ_};
+ghost use lib.Signed.{_≤ℤ_, leZ};
+ghost use Rattle.net.specs.Net.{webOf, NetOk, Below};
+ghost use Rattle.net.specs.Starts.{Pushed, Part, AllMet, Settles};
+
+// Edges below `count`, from and to operations below `ops`.
+pub struct Net {
+    pub ops: u8,
+    pub count: u8,
+    pub from: [u8; 96],
+    pub to: [u8; 96],
+    pub weight: [i32; 96],
+}
+
+// The least starts over a floor, or that a bad closed walk exists.
+pub struct Settled {
+    pub bad: bool,
+    pub at: [usize; 24],
+}
+
+// A start, after an edge to it.
+fn pushed(from: usize, weight: i32, to: usize) -> usize
+    requires { ⌜ (from ≤ 3000000) × (to ≤ 3000000) × (negsuc 599 ≤ℤ weight) × (weight ≤ℤ pos 600) ⌝ }
+    ensures { λ r. ⌜ Pushed from weight to r ⌝ }
+{
+    let x = from as i32 + weight;
+    if x <= to as i32 { to } else { x as usize }
+}
+
+// The starts, each after every edge to it.
+fn push_round(net: Net, t: [usize; 24]) -> [usize; 24]
+    requires { ⌜ NetOk (webOf net) × Below 2000000 t ⌝ }
+    ensures { λ r. ⌜ Part (webOf net) t r (net .count) ⌝ }
+{
+    let mut out = t;
+    let count = net.count as usize;
+    let mut e: usize = 0;
+    while e < count {
+        let i = net.from[e] as usize;
+        let j = net.to[e] as usize;
+        out[j] = pushed(out[i], net.weight[e], out[j]);
+        e += 1;
+    }
+    out
+}
+
+fn met(from: usize, weight: i32, to: usize) -> bool
+    requires { ⌜ (from ≤ 3000000) × (to ≤ 3000000) × (negsuc 599 ≤ℤ weight) × (weight ≤ℤ pos 600) ⌝ }
+    ensures { λ r. ⌜ r ≡ leZ (pos from +ℤ weight) (pos to) ⌝ }
+{
+    from as i32 + weight <= to as i32
+}
+
+fn all_met(net: Net, t: [usize; 24]) -> bool
+    requires { ⌜ NetOk (webOf net) × Below 2000000 t ⌝ }
+    ensures { λ r. ⌜ AllMet (webOf net) t r ⌝ }
+{
+    let count = net.count as usize;
+    let mut e: usize = 0;
+    while e < count {
+        let i = net.from[e] as usize;
+        let j = net.to[e] as usize;
+        if met(t[i], net.weight[e], t[j]) {
+            e += 1;
+        } else {
+            return false;
+        }
+    }
+    true
+}
+
+// The least starts that are at least the floor and meet every edge, by rounds over the edges; as many rounds as there are operations settle them, or
+// a bad closed walk exists.
+pub fn settle(net: Net, floor: [usize; 24]) -> Settled
+    requires { ⌜ NetOk (webOf net) × (1 ≤ net .ops) × Below 16384 floor ⌝ }
+    ensures { λ r. ⌜ Settles (webOf net) floor (r .bad) (r .at) ⌝ }
+{
+    let n = net.ops as usize;
+    let mut t = floor;
+    let mut k: usize = 0;
+    while k < n {
+        if all_met(net, t) {
+            return Settled { bad: false, at: t };
+        }
+        let next = push_round(net, t);
+        t = next;
+        k += 1;
+    }
+    Settled {
+        bad: true,
+        at: [0; 24],
+    }
+}
