@@ -1,0 +1,74 @@
+use mathlib.Core.Logic.{⊎-elim}
+use Prim.Native.Nat.{_≤_, _-_}
+use native.Mathlib.Omega.{arith}
+use borrow.Author.Needs.{needs}
+use Rattle.search.proofs.choose.Statement.{statement}
+use Rattle.search.proofs.choose.Tie as tie
+
+abbrev Inv-loop : tie.InvT-loop
+Inv-loop n l d blame at₀ least₀ most₀ i₀ at least most i = (i ≤ n) × (least ≤ 128)
+
+abbrev μ-loop : tie.MeasureT-loop
+μ-loop n l d blame at₀ least₀ most₀ i₀ at least most i = n - i
+
+-- src/lib.rt:121:5
+loop-holds : tie.Need-loop-holds Inv-loop μ-loop
+loop-holds c = search needs
+
+-- src/lib.rt:122:23
+mul-slots : tie.Need-mul-slots Inv-loop μ-loop
+mul-slots c = search needs
+
+-- src/lib.rt:122:23
+array-copy-out-slots : tie.Need-array-copy-out-slots Inv-loop μ-loop
+array-copy-out-slots c = search needs
+
+-- src/lib.rt:122:13
+slots-requires : tie.Need-slots-requires Inv-loop μ-loop
+slots-requires c κs = search needs
+
+-- src/lib.rt:123:17
+mul-b : tie.Need-mul-b Inv-loop μ-loop
+mul-b c = search needs
+
+-- src/lib.rt:123:17
+array-read-b : tie.Need-array-read-b Inv-loop μ-loop
+array-read-b c = search needs
+
+-- src/lib.rt:124:12
+better-requires : tie.Need-better-requires Inv-loop μ-loop
+better-requires c κs = search needs
+
+-- src/lib.rt:129:9
+add-i : tie.Need-add-i Inv-loop μ-loop
+add-i c = search needs
+
+-- src/lib.rt:121:5
+loop-less : tie.Need-loop-less Inv-loop μ-loop
+loop-less c = search needs
+
+-- src/lib.rt:121:5
+loop-again : tie.Need-loop-again Inv-loop μ-loop
+loop-again c = (omega arith, ⊎-elim (λ w. search needs) (λ w. search needs) (c .if1 .came))
+
+-- src/lib.rt:114:1
+returns : tie.Need-returns Inv-loop μ-loop
+returns c = search needs
+
+pub choose-spec : {M : Type 1} → statement M
+choose-spec =
+    tie.close
+    (tie.spec
+    Inv-loop
+    μ-loop
+    loop-holds
+    mul-slots
+    array-copy-out-slots
+    slots-requires
+    mul-b
+    array-read-b
+    better-requires
+    add-i
+    loop-less
+    loop-again
+    returns)

@@ -1,0 +1,16 @@
+use mathlib.Core.Path.{sym, _∙_}
+use borrow.Author.Needs.{needs}
+use Rattle.laws.specs.Z.{true-false}
+use Rattle.windows.proofs.either.Statement.{statement}
+use Rattle.windows.proofs.either.Tie as tie
+
+-- src/lib.rt:37:1
+returns : tie.Need-returns
+returns c = search needs
+
+-- src/lib.rt:37:1
+returns-2 : tie.Need-returns-2
+returns-2 c = record { one = λ e. true-false (sym e ∙ c .if1 .left); two = λ e. e }
+
+pub either-spec : {M : Type 1} → statement M
+either-spec = tie.close (tie.spec returns returns-2)

@@ -1,0 +1,23 @@
+use mathlib.Core.Path.{refl}
+use mathlib.Core.Logic.{inl, inr}
+use Rattle.windows.proofs.raise.Statement.{statement}
+use Rattle.windows.proofs.raise.Tie as tie
+
+-- src/lib.rt:192:17
+returns : tie.Need-returns
+returns c = record { which = inr (c .before .before .if1 .taken, c .before .if2 .taken, c .if3 .taken, refl) }
+
+-- src/lib.rt:186:1
+returns-2 : tie.Need-returns-2
+returns-2 c = record { which = inl refl }
+
+-- src/lib.rt:186:1
+returns-3 : tie.Need-returns-3
+returns-3 c = record { which = inl refl }
+
+-- src/lib.rt:186:1
+returns-4 : tie.Need-returns-4
+returns-4 c = record { which = inl refl }
+
+pub raise-spec : {M : Type 1} → statement M
+raise-spec = tie.close (tie.spec returns returns-2 returns-3 returns-4)
