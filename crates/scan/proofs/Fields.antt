@@ -1,0 +1,173 @@
+-- The parts of a line, as the code meets them at places of the bytes s: a key, a number and the byte that ends it, numbers in an array.
+-- Assumes nothing.
+use mathlib.Core.Path.{_≡_, refl, sym, ap, subst, _∙_}
+use mathlib.Core.Bool.{Bool, true, false}
+use mathlib.Core.List.{List, [], _∷_, _++_}
+use Prim.Native.Nat.{ℕ, zero, suc, _+_, _-_, _≤_, _<_}
+use native.Mathlib.Omega.{arith}
+use native.Mathlib.Numerals.{add-one}
+use lib.IntN.{ℤ, pos, natAbs}
+use lib.Dec.{eqb}
+use lib.ListN.{length, drop, take, getD, set, replicate, drop-of-length-le, length-set}
+use lib.Seq.{take-suc-set, length-take-le}
+use borrow.Author.Tests.{eq-eqb, ne-eqb, le-leb, lt-leb}
+use Rattle.laws.specs.Store.{store}
+use Rattle.laws.specs.Z.{true-false}
+use Rattle.text.specs.Text.{endOf}
+use Rattle.scan.specs.Number.{Signed, int, none, number, signedNumber, wholeOf}
+use Rattle.scan.specs.Line.{Rest, after, missing, stripped, fieldOf, Fields, fields, bad, fieldsFrom, lineOf, dueLine, seenPlace, withinPlace, zeros, LineFits}
+use Rattle.scan.specs.declared.Line.{Line}
+use Rattle.scan.specs.declared.Place.{Place}
+use Rattle.scan.specs.declared.Place.the-variants.{After, Missing}
+use Rattle.scan.proofs.Digits.{front}
+
+-- ---- a number and the byte that ends it
+
+module _ (s : List ℕ) (bs : List ℕ) (end : ℕ) (m : Bool) (v : ℤ) (p : ℕ) (e : wholeOf m bs ≡ int v (drop p s)) where
+  pub field-got : p < length s → getD s p 0 ≡ end → fieldOf end m bs ≡ int v (drop (p + 1) s)
+  unfolding fieldOf
+  field-got h g = rw (e, front s p h, eq-eqb _ _ g)
+
+  pub field-other : p < length s → (getD s p 0 ≡ end → ⊥) → fieldOf end m bs ≡ none
+  unfolding fieldOf
+  field-other h g = rw (e, front s p h, ne-eqb _ _ g)
+
+  pub field-short : length s ≤ p → fieldOf end m bs ≡ none
+  unfolding fieldOf
+  field-short h = rw (e, drop-of-length-le s h)
+
+pub field-none : (bs : List ℕ) (end : ℕ) (m : Bool) → wholeOf m bs ≡ none → fieldOf end m bs ≡ none
+unfolding fieldOf
+field-none bs end m e = rw e
+
+pub end-last : (m : ℕ) → m ≡ 0 → endOf m ≡ 10
+end-last m e = ap endOf e
+
+pub end-more : (m : ℕ) → 0 < m → endOf m ≡ 44
+end-more zero h = absurd (omega arith)
+end-more (suc m) h = refl
+
+-- ---- one byte of a key
+
+module _ (s k : List ℕ) (p i : ℕ) (h : i < length k) where
+  pub key-short : length s ≤ p → stripped (drop i k) (drop p s) ≡ missing
+  unfolding stripped
+  key-short e = rw (front k i h, drop-of-length-le s e)
+
+  pub key-other : p < length s → (getD s p 0 ≡ getD k i 0 → ⊥) → stripped (drop i k) (drop p s) ≡ missing
+  unfolding stripped
+  key-other hp n = rw (front k i h, front s p hp, ne-eqb _ _ n)
+
+  pub key-same : p < length s → getD s p 0 ≡ getD k i 0 → stripped (drop i k) (drop p s) ≡ stripped (drop (i + 1) k) (drop (p + 1) s)
+  unfolding stripped
+  key-same hp n = rw (front k i h, front s p hp, eq-eqb _ _ n)
+
+pub key-end : (k : List ℕ) (i : ℕ) (bs : List ℕ) → length k ≤ i → stripped (drop i k) bs ≡ after bs
+unfolding stripped
+key-end k i bs h = rw (drop-of-length-le k h)
+
+pub seen-after : (s : List ℕ) {n : Rest} {r : Place} {p : ℕ} → seenPlace s r ≡ n → r ≡ After p → n ≡ after (drop p s)
+unfolding seenPlace
+seen-after s e g = sym e ∙ ap (seenPlace s) g
+
+pub seen-missing : (s : List ℕ) {n : Rest} {r : Place} → seenPlace s r ≡ n → r ≡ Missing → n ≡ missing
+unfolding seenPlace
+seen-missing s e g = sym e ∙ ap (seenPlace s) g
+
+pub within-after : (s : List ℕ) {r : Place} {p : ℕ} → withinPlace s r → r ≡ After p → p ≤ length s
+unfolding withinPlace
+within-after s w g = subst (withinPlace s) g w
+
+-- ---- one number of a line, with the numbers before it at the front of an array
+
+module _ (count minus i : ℕ) (vs : List ℤ) (bs : List ℕ) (h : i < count) (l : i < length vs) where
+  turn : count - i ≡ suc (count - (i + 1))
+  turn = omega arith
+
+  before : length (take i vs) ≡ i
+  before = length-take-le i vs (omega arith)
+
+  pub numbers-stop : fieldOf (endOf (count - (i + 1))) (eqb i minus) bs ≡ none → fieldsFrom (count - i) minus (take i vs) bs ≡ bad
+  unfolding fieldsFrom
+  numbers-stop e = rw (turn, before, e)
+
+  pub numbers-more : (v : ℤ) (rest : List ℕ) → fieldOf (endOf (count - (i + 1))) (eqb i minus) bs ≡ int v rest
+      → fieldsFrom (count - (i + 1)) minus (take (i + 1) (set vs i v)) rest ≡ fieldsFrom (count - i) minus (take i vs) bs
+  unfolding fieldsFrom
+  numbers-more v rest e =
+      let t : take (i + 1) (set vs i v) ≡ take i vs ++ (v ∷ []) = rw add-one (take-suc-set vs i v l) in
+      rw (turn, before, e, t)
+
+pub numbers-end : (count minus i : ℕ) (vs : List ℤ) (bs : List ℕ) → i ≡ count → fieldsFrom (count - i) minus (take i vs) bs ≡ fields (take count vs) bs
+unfolding fieldsFrom
+numbers-end count minus i vs bs h =
+    let q : count - i ≡ 0 = omega arith in
+    rw (q, h)
+
+-- ---- the array: values of at most four digits, and 0 from the place i on
+
+pub record Filled (i : ℕ) (vs : List ℤ) : Type 0 where
+  pub whole : length vs ≡ 8
+  pub small : (k : ℕ) → natAbs (getD vs k (pos 0)) ≤ 9999
+  pub past : (k : ℕ) → i ≤ k → getD vs k (pos 0) ≡ pos 0
+
+all-zero : (n k : ℕ) → getD (replicate n (pos 0)) k (pos 0) ≡ pos 0
+all-zero zero k = refl
+all-zero (suc n) zero = refl
+all-zero (suc n) (suc k) = all-zero n k
+
+pub filled-none : Filled 0 zeros
+filled-none = record { whole = refl; small = λ k. rw (all-zero 8 k) (omega arith); past = λ k h. all-zero 8 k }
+
+pub filled-more : (i : ℕ) (vs : List ℤ) (v : ℤ) → i < 8 → Filled i vs → natAbs v ≤ 9999 → Filled (i + 1) (set vs i v)
+filled-more i vs v h f m =
+    let l = f .whole in
+    record {
+      whole = length-set vs i v ∙ l;
+      small = λ k. store (λ j x. natAbs x ≤ 9999) vs i v (pos 0) (omega arith) m k (λ n. f .small k);
+      past = λ k q. store (λ j x. i + 1 ≤ j → x ≡ pos 0) vs i v (pos 0) (omega arith) (λ n. absurd (omega arith)) k (λ n r. f .past k (omega arith)) q;
+    }
+
+pub fits-line : (s : List ℕ) (k p : ℕ) (vs : List ℤ) → p ≤ length s → Filled k vs → LineFits s k (record { ok = true; values = vs; next = p })
+fits-line s k p vs h f = record { whole = f .whole; next = h; small = f .small; past = f .past; refused = λ e. true-false e }
+
+pub fits-none : (s : List ℕ) (k : ℕ) → LineFits s k (record { ok = false; values = zeros; next = 0 })
+fits-none s k =
+    record {
+      whole = refl;
+      next = omega arith;
+      small = filled-none .small;
+      past = λ i h. filled-none .past i (omega arith);
+      refused = λ e. (refl, refl);
+    }
+
+-- ---- a line
+
+pub line-after : (k : List ℕ) (count minus : ℕ) (bs rest : List ℕ) → 1 ≤ count → count ≤ 8 → stripped k bs ≡ after rest → dueLine k count minus bs ≡ fieldsFrom count minus [] rest
+unfolding lineOf
+line-after k count minus bs rest lo hi e = rw (le-leb 1 count lo, le-leb count 8 hi, e)
+
+pub line-missing : (k : List ℕ) (count minus : ℕ) (bs : List ℕ) → 1 ≤ count → count ≤ 8 → stripped k bs ≡ missing → dueLine k count minus bs ≡ bad
+unfolding lineOf
+line-missing k count minus bs lo hi e = rw (le-leb 1 count lo, le-leb count 8 hi, e)
+
+pub line-none : (k : List ℕ) (count minus : ℕ) (bs : List ℕ) → count < 1 → dueLine k count minus bs ≡ bad
+line-none k count minus bs lo = rw (lt-leb 1 count lo)
+
+pub line-long : (k : List ℕ) (count minus : ℕ) (bs : List ℕ) → 8 < count → dueLine k count minus bs ≡ bad
+line-long k count minus bs hi = rw (le-leb 1 count (omega arith), lt-leb count 8 hi)
+
+-- no bytes are no line
+field-empty : (end : ℕ) (m : Bool) → fieldOf end m [] ≡ none
+unfolding fieldOf wholeOf signedNumber number
+field-empty end true = refl
+field-empty end false = refl
+
+line-empty : (key : List ℕ) (count minus : ℕ) → 1 ≤ count → lineOf key count minus [] ≡ bad
+unfolding lineOf stripped fieldsFrom
+line-empty key zero minus h = absurd (omega arith)
+line-empty [] (suc k) minus h = rw (field-empty (endOf k) (eqb 0 minus))
+line-empty (c ∷ cs) (suc k) minus h = refl
+
+pub line-past : (s k : List ℕ) (at count minus : ℕ) → length s ≤ at → 1 ≤ count → count ≤ 8 → dueLine k count minus (drop at s) ≡ bad
+line-past s k at count minus h lo hi = rw (drop-of-length-le s h, le-leb 1 count lo, le-leb count 8 hi) (line-empty k count minus lo)

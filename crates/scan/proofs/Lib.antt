@@ -1,0 +1,3 @@
+mod Digits
+mod Signs
+mod Fields

@@ -1,0 +1,103 @@
+-- A number with its sign, as the code meets it, and what a found one says of its definition. A local holds bits: `ofZ w z` are those of z.
+-- Assumes nothing.
+use mathlib.Core.Path.{_≡_, refl, sym, ap, subst, _∙_}
+use mathlib.Core.Logic.{_⊎_, inl, inr}
+use mathlib.Core.Bool.{Bool, true, false}
+use mathlib.Core.List.{List, [], _∷_}
+use Prim.Native.Nat.{ℕ, suc, zero, _+_, _≤_, _<_}
+use native.Mathlib.Omega.{arith}
+use lib.IntN.{ℤ, pos, negsuc, negℤ, natAbs, _-ℤ_, +ℤ-idl}
+use lib.ListN.{length, drop, getD, drop-of-length-le}
+use mir.Syntax.{w32}
+use mir.Val.{SFits, toZ, ofZ}
+use mir.Facts.{toZ-ofZ}
+use borrow.Author.Tests.{eq-eqb, ne-eqb}
+use Rattle.laws.specs.Z.{true-false}
+use Rattle.scan.specs.Number.{value, malformed, number, Signed, int, none, signedOf, signedNumber, wholeOf, seenWhole, withinWhole}
+use Rattle.scan.specs.declared.Whole.{Whole}
+use Rattle.scan.specs.declared.Whole.the-variants.{Int, None}
+use Rattle.scan.proofs.Digits.{front}
+
+-- ---- at most four digits: the number is an i32, so its bits read back as the number
+
+pub minus : (z : ℤ) → pos 0 -ℤ z ≡ negℤ z
+minus z = +ℤ-idl (negℤ z)
+
+neg-fits : (z : ℤ) → natAbs z ≤ 9999 → SFits w32 (negℤ z)
+neg-fits (pos zero) h = record { sfits = omega arith }
+neg-fits (pos (suc n)) h = record { sfits = omega arith }
+neg-fits (negsuc n) h = record { sfits = omega arith }
+
+pub sub-fits : (z : ℤ) → natAbs z ≤ 9999 → SFits w32 (pos 0 -ℤ z)
+sub-fits z h = rw (minus z) (neg-fits z h)
+
+pub neg-bits : (z : ℤ) → natAbs z ≤ 9999 → toZ w32 (ofZ w32 (pos 0 -ℤ z)) ≡ negℤ z
+neg-bits z h = ap (λ (x : ℤ). toZ w32 (ofZ w32 x)) (minus z) ∙ toZ-ofZ (neg-fits z h)
+
+small-fits : (z : ℤ) → natAbs z ≤ 9999 → SFits w32 z
+small-fits (pos n) h = record { sfits = omega arith }
+small-fits (negsuc n) h = record { sfits = omega arith }
+
+pub small-bits : (z : ℤ) → natAbs z ≤ 9999 → toZ w32 (ofZ w32 z) ≡ z
+small-bits z h = toZ-ofZ (small-fits z h)
+
+pub mag-signed : (g : Bool) (n : ℕ) → natAbs (signedOf g n) ≡ n
+mag-signed false n = refl
+mag-signed true zero = refl
+mag-signed true (suc n) = refl
+
+-- ---- a number with the sign that was read before it
+
+module _ (bs : List ℕ) (n : ℕ) (rest : List ℕ) (e : number bs ≡ value n rest) where
+  pub signed-got : (g : Bool) → (g ≡ false) ⊎ (n ≡ 0 → ⊥) → signedNumber g bs ≡ int (signedOf g n) rest
+  unfolding signedNumber
+  signed-got false c = rw e
+  signed-got true (inl f) = true-false f
+  signed-got true (inr f) = rw (e, ne-eqb n 0 f)
+
+  pub signed-zero : (g : Bool) → g ≡ true → n ≡ 0 → signedNumber g bs ≡ none
+  unfolding signedNumber
+  signed-zero false g z = true-false (sym g)
+  signed-zero true g z = rw (e, eq-eqb n 0 z)
+
+pub signed-none : (g : Bool) (bs : List ℕ) → number bs ≡ malformed → signedNumber g bs ≡ none
+unfolding signedNumber
+signed-none false bs e = rw e
+signed-none true bs e = rw e
+
+-- ---- a number after a minus where one may stand
+
+module _ (s : List ℕ) (i : ℕ) where
+  pub whole-minus : (m : Bool) → m ≡ true → i < length s → getD s i 0 ≡ 45 → wholeOf m (drop i s) ≡ signedNumber true (drop (i + 1) s)
+  unfolding wholeOf
+  whole-minus false e h b = true-false (sym e)
+  whole-minus true e h b = rw (front s i h, eq-eqb (getD s i 0) 45 b)
+
+  pub whole-off : (m : Bool) → m ≡ false → wholeOf m (drop i s) ≡ signedNumber false (drop i s)
+  unfolding wholeOf
+  whole-off false e = refl
+  whole-off true e = true-false e
+
+  pub whole-end : (m : Bool) → length s ≤ i → wholeOf m (drop i s) ≡ signedNumber false (drop i s)
+  unfolding wholeOf
+  whole-end false h = refl
+  whole-end true h = rw (drop-of-length-le s h)
+
+  pub whole-plain : (m : Bool) → i < length s → (getD s i 0 ≡ 45 → ⊥) → wholeOf m (drop i s) ≡ signedNumber false (drop i s)
+  unfolding wholeOf
+  whole-plain false h b = refl
+  whole-plain true h b = rw (front s i h, ne-eqb (getD s i 0) 45 b)
+
+-- ---- a result that is known at its variant
+
+pub seen-int : (s : List ℕ) {n : Signed} {r : Whole} {v : ℤ} {p : ℕ} → seenWhole s r ≡ n → r ≡ Int v p → n ≡ int v (drop p s)
+unfolding seenWhole
+seen-int s e g = sym e ∙ ap (seenWhole s) g
+
+pub seen-none : (s : List ℕ) {n : Signed} {r : Whole} → seenWhole s r ≡ n → r ≡ None → n ≡ none
+unfolding seenWhole
+seen-none s e g = sym e ∙ ap (seenWhole s) g
+
+pub within-int : (s : List ℕ) {r : Whole} {v : ℤ} {p : ℕ} → withinWhole s r → r ≡ Int v p → (p ≤ length s) × (natAbs v ≤ 9999)
+unfolding withinWhole
+within-int s w g = subst (withinWhole s) g w

@@ -1,0 +1,250 @@
+// Reads one line of text: a key with its equals sign, whole numbers split by single commas, and a line feed.
+ghost use mathlib.Core.Path.{_≡_};
+ghost use mathlib.Core.List.{[]};
+ghost use Prim.Native.Nat.{_+_, _-_, _≤_, _<_};
+ghost use lib.ListN.{length, drop};
+ghost use Rattle.scan.specs.Number.{classOf, number, moreDigits, seen, within, signedOf, signedNumber, wholeOf, seenWhole, withinWhole};
+ghost use Rattle.scan.specs.Line.{stripped, seenPlace, withinPlace, fieldOf, fieldsFrom, dueLine, seenLine, LineFits};
+ghost use Rattle.text.specs.Text.{endOf};
+
+// The most numbers that a line may have.
+const MOST_NUMBERS: usize = 8;
+
+// What a byte after the equals sign is.
+pub enum Class {
+    Minus,
+    Digit(u8),
+    Comma,
+    LineFeed,
+    Other,
+}
+
+pub fn classify(b: u8) -> Class
+    ensures { λ r. ⌜ r ≡ classOf b ⌝ }
+{
+    match b {
+        b'-' => Class::Minus,
+        b'0'..=b'9' => Class::Digit(b - 48),
+        b',' => Class::Comma,
+        b'\n' => Class::LineFeed,
+        _ => Class::Other,
+    }
+}
+
+// A number without a sign and the place after it, or no number.
+enum Number {
+    Value(u32, usize),
+    Malformed,
+}
+
+// The rest of a number whose digits so far stand for `first`, from `at`: four digits at most, and none after a leading 0.
+fn more_digits(s: &[u8], at: usize, first: u32) -> Number
+    requires { ⌜ (first ≤ 9) × (at ≤ length (now s)) ⌝ }
+    ensures { λ r. ⌜ seen (now (s .entry)) r ≡ moreDigits first (drop at (now (s .entry))) ⌝ }
+    ensures { λ r. ⌜ within (now (s .entry)) r ⌝ }
+{
+    let mut v = first;
+    let mut i = at;
+    while i < s.len() {
+        let b = s[i];
+        match classify(b) {
+            Class::Digit(d) => {
+                if v == 0 {
+                    return Number::Malformed;
+                }
+                if 999 < v {
+                    return Number::Malformed;
+                }
+                v = v * 10 + (d as u32);
+            }
+            _ => {
+                return Number::Value(v, i);
+            }
+        }
+        i += 1;
+    }
+    Number::Value(v, i)
+}
+
+// The number without a sign at `at`.
+fn read_number(s: &[u8], at: usize) -> Number
+    ensures { λ r. ⌜ seen (now (s .entry)) r ≡ number (drop at (now (s .entry))) ⌝ }
+    ensures { λ r. ⌜ within (now (s .entry)) r ⌝ }
+{
+    if s.len() <= at {
+        return Number::Malformed;
+    }
+    let b = s[at];
+    match classify(b) {
+        Class::Digit(d) => more_digits(s, at + 1, d as u32),
+        _ => Number::Malformed,
+    }
+}
+
+// n, or -n.
+fn with_sign(negative: bool, n: u32) -> i32
+    requires { ⌜ n ≤ 9999 ⌝ }
+    ensures { λ r. ⌜ r ≡ signedOf negative n ⌝ }
+{
+    let v = n as i32;
+    if negative {
+        return -v;
+    }
+    v
+}
+
+// A whole number and the place after it, or none.
+enum Whole {
+    Int(i32, usize),
+    None,
+}
+
+// The number at `at` with the sign that was read before it; -0 is malformed.
+fn read_signed(s: &[u8], at: usize, negative: bool) -> Whole
+    ensures { λ r. ⌜ seenWhole (now (s .entry)) r ≡ signedNumber negative (drop at (now (s .entry))) ⌝ }
+    ensures { λ r. ⌜ withinWhole (now (s .entry)) r ⌝ }
+{
+    match read_number(s, at) {
+        Number::Value(n, next) => {
+            if negative {
+                if n == 0 {
+                    return Whole::None;
+                }
+            }
+            Whole::Int(with_sign(negative, n), next)
+        }
+        Number::Malformed => Whole::None,
+    }
+}
+
+// The number at `at`, after a minus where one may stand.
+fn read_whole(s: &[u8], at: usize, minus: bool) -> Whole
+    ensures { λ r. ⌜ seenWhole (now (s .entry)) r ≡ wholeOf minus (drop at (now (s .entry))) ⌝ }
+    ensures { λ r. ⌜ withinWhole (now (s .entry)) r ⌝ }
+{
+    if minus {
+        if at < s.len() {
+            if s[at] == b'-' {
+                return read_signed(s, at + 1, true);
+            }
+        }
+    }
+    read_signed(s, at, false)
+}
+
+// A number and the byte that ends it.
+fn read_field(s: &[u8], at: usize, end: u8, minus: bool) -> Whole
+    ensures { λ r. ⌜ seenWhole (now (s .entry)) r ≡ fieldOf end minus (drop at (now (s .entry))) ⌝ }
+    ensures { λ r. ⌜ withinWhole (now (s .entry)) r ⌝ }
+{
+    match read_whole(s, at, minus) {
+        Whole::Int(v, next) => {
+            if next < s.len() {
+                if s[next] == end {
+                    return Whole::Int(v, next + 1);
+                }
+            }
+            Whole::None
+        }
+        Whole::None => Whole::None,
+    }
+}
+
+// The place after a key, where the bytes begin with it.
+enum Place {
+    After(usize),
+    Missing,
+}
+
+fn after_key(s: &[u8], at: usize, key: &[u8]) -> Place
+    requires { ⌜ at ≤ length (now s) ⌝ }
+    ensures { λ r. ⌜ seenPlace (now (s .entry)) r ≡ stripped (now (key .entry)) (drop at (now (s .entry))) ⌝ }
+    ensures { λ r. ⌜ withinPlace (now (s .entry)) r ⌝ }
+{
+    let mut i = 0;
+    let mut p = at;
+    while i < key.len() {
+        if s.len() <= p {
+            return Place::Missing;
+        }
+        if s[p] != key[i] {
+            return Place::Missing;
+        }
+        p += 1;
+        i += 1;
+    }
+    Place::After(p)
+}
+
+// The byte that ends the number at i of count.
+fn end_byte(i: usize, count: usize) -> u8
+    requires { ⌜ i < count ⌝ }
+    ensures { λ r. ⌜ r ≡ endOf (count - (i + 1)) ⌝ }
+{
+    if i + 1 < count { b',' } else { b'\n' }
+}
+
+// A line's numbers and the place after its line feed. Values past the line's numbers are 0; of a line that is not ok everything is 0.
+pub struct Line {
+    pub ok: bool,
+    pub values: [i32; 8],
+    pub next: usize,
+}
+
+// The count numbers of a line, from `start`; the one at `minus` may carry a minus.
+fn read_numbers(s: &[u8], start: usize, count: usize, minus: usize) -> Line
+    requires { ⌜ (start ≤ length (now s)) × (count ≤ 8) ⌝ }
+    ensures { λ r. ⌜ seenLine (now (s .entry)) count r ≡ fieldsFrom count minus [] (drop start (now (s .entry))) ⌝ }
+    ensures { λ r. ⌜ LineFits (now (s .entry)) count r ⌝ }
+{
+    let mut values = [0i32; 8];
+    let mut p = start;
+    let mut i = 0;
+    while i < count {
+        match read_field(s, p, end_byte(i, count), i == minus) {
+            Whole::Int(v, next) => {
+                values[i] = v;
+                p = next;
+            }
+            Whole::None => {
+                return Line {
+                    ok: false,
+                    values: [0; 8],
+                    next: 0,
+                };
+            }
+        }
+        i += 1;
+    }
+    Line {
+        ok: true,
+        values: values,
+        next: p,
+    }
+}
+
+// The line at `at` with this key (its equals sign included) and count numbers, of which the one at `minus` may carry a minus.
+// A line has one to eight numbers: with any other count, as with any malformed line, the answer is not ok.
+pub fn read_line(s: &[u8], at: usize, key: &[u8], count: usize, minus: usize) -> Line
+    ensures { λ r. ⌜ seenLine (now (s .entry)) count r ≡ dueLine (now (key .entry)) count minus (drop at (now (s .entry))) ⌝ }
+    ensures { λ r. ⌜ LineFits (now (s .entry)) count r ⌝ }
+{
+    let none = Line {
+        ok: false,
+        values: [0; 8],
+        next: 0,
+    };
+    if count < 1 {
+        return none;
+    }
+    if MOST_NUMBERS < count {
+        return none;
+    }
+    if s.len() < at {
+        return none;
+    }
+    match after_key(s, at, key) {
+        Place::After(start) => read_numbers(s, start, count, minus),
+        Place::Missing => none,
+    }
+}
