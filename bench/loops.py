@@ -3,7 +3,9 @@
 
 layered      layer by layer as in the GeMS paper (source 002): one type with two instances and latency 1,
              forward edges with probability 0.05, backedges with 0.005 and distance 1, delays 0
-motor        transforms, controllers and filters of motor control, with integrators and outer feedback
+dense        the same with probabilities 0.2 and 0.02, which gives as many edges an operation as the paper's graphs
+motor        transforms, controllers and filters of motor control, with integrators, outer feedback and
+             outputs due within a time
 deadlines    loops whose operations must follow others within a time, by edges with a negative delay
 packing      as many operations of each type as its instances hold at the wanted interval, starts confined
 recurrences  many backedges of distance 1 to 3
@@ -40,22 +42,30 @@ def span(sheet):
 
 
 def fitted(rng, types, ops, edges, room):
-    """The sheet with a horizon of its span and some room, and a cap some way past the resource bound."""
+    """The sheet with a horizon that its span and its fullest type need and some room; cap past the resource bound."""
     sheet = Sheet(1, 1, types, ops, edges[:MOST_EDGES])
     bound = resource_bound(sheet)
-    sheet.horizon = min(128, max(1, span(sheet) + rng.randint(0, room) + bound))
+    sheet.horizon = min(128, max(span(sheet), bound) + rng.randint(0, room))
     sheet.cap = min(64, bound + 16)
     return sheet
 
 
-def layered(rng):
+def layers_of(rng, forward, backward):
     layers = rng.choice([24, 12, 8, 6, 4, 3, 2, 1])
     depth = [i * layers // OPERATIONS for i in range(OPERATIONS)]
     pairs = [(i, j) for i in range(OPERATIONS) for j in range(OPERATIONS)]
-    edges = [(i, j, 0, 0) for i, j in pairs if depth[i] < depth[j] and rng.random() < 0.05]
+    edges = [(i, j, 0, 0) for i, j in pairs if depth[i] < depth[j] and rng.random() < forward]
     starts = earliest([1] * OPERATIONS, edges)
-    edges += [(i, j, 0, 1) for i, j in pairs if starts[i] > starts[j] and rng.random() < 0.005]
-    return fitted(rng, [(2, 1)], [0] * OPERATIONS, edges, 12)
+    edges += [(i, j, 0, 1) for i, j in pairs if starts[i] > starts[j] and rng.random() < backward]
+    return fitted(rng, [(2, 1)], [0] * OPERATIONS, edges, rng.choice([0, 4, 12]))
+
+
+def layered(rng):
+    return layers_of(rng, 0.05, 0.005)
+
+
+def dense(rng):
+    return layers_of(rng, 0.2, 0.02)
 
 
 MULTIPLIER, ADDER, PORT = 0, 1, 2
@@ -112,7 +122,11 @@ def motor(rng):
         i, j = rng.choice(signals), rng.choice(signals)
         loop.back(max(i, j), min(i, j), rng.choice([1, 2, 2, 3]))
     types = [(rng.choice([1, 1, 2, 3]), rng.choice([2, 3, 4])), (rng.choice([1, 1, 2]), 1), (1, rng.choice([1, 2]))]
-    return fitted(rng, types, loop.ops, loop.edges, rng.choice([0, 4, 16]))
+    sheet = fitted(rng, types, loop.ops, loop.edges, rng.choice([0, 4, 16]))
+    longest = span(sheet)
+    for last in rng.sample(signals, 2):
+        sheet.edges.append((last, 0, max(-64, -longest - rng.randint(0, 4)), 0))
+    return sheet
 
 
 def some_types(rng, count):
@@ -128,7 +142,7 @@ def deadlines(rng):
             edges.append((i, j, rng.choice([0, 0, 1]), 0))
     for i, j, d, _ in list(edges):
         if rng.random() < 0.5:
-            slack = types[ops[i]][1] + d + rng.randint(1, 8)
+            slack = types[ops[i]][1] + d + rng.randint(0, 4)
             edges.append((j, i, max(-64, -slack - types[ops[j]][1]), 0))
     return fitted(rng, types, ops, edges, rng.choice([2, 8]))
 
@@ -164,7 +178,7 @@ def recurrences(rng):
     return fitted(rng, types, ops, edges, rng.choice([4, 16]))
 
 
-FAMILIES = {"layered": layered, "motor": motor, "deadlines": deadlines, "packing": packing, "recurrences": recurrences}
+FAMILIES = {f.__name__: f for f in (layered, dense, motor, deadlines, packing, recurrences)}
 
 
 def sheet_of(family, seed):
