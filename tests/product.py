@@ -1,0 +1,75 @@
+"""How the tests reach the product: its programs by the kit's loader, its C calls through ctypes."""
+
+import ctypes
+import os
+import shutil
+import subprocess
+import sys
+
+ROOT = os.path.realpath(os.path.join(os.path.dirname(os.path.abspath(__file__)), ".."))
+RT = shutil.which("rt") or "/opt/rattle/bin/rt"
+KIT = os.environ.get("RATTLE_HOME") or os.path.dirname(os.path.dirname(os.path.realpath(RT)))
+TOOLS = os.path.join(KIT, "on", os.uname().machine, "toolchain")
+
+
+def rt(*words):
+    done = subprocess.run([RT, *words], cwd=ROOT, stdout=subprocess.PIPE, stderr=subprocess.STDOUT)
+    if done.returncode:
+        sys.stdout.buffer.write(done.stdout)
+        sys.exit("rt %s failed" % " ".join(words))
+
+
+def program_words(name):
+    """The words that run a program as rt runs it; it is built where it is not there."""
+    path = os.path.join(ROOT, "target", "bin", name)
+    if not os.path.exists(path):
+        rt("check", name)
+    loader = os.path.join(TOOLS, "lib", "ld-linux-x86-64.so.2")
+    words = [loader, "--library-path", os.path.join(TOOLS, "lib"), path]
+    emulator = os.path.join(TOOLS, "bin", "qemu-x86_64")
+    return [emulator] + words if os.path.exists(emulator) else words
+
+
+def run(name, data):
+    """What the program writes for this standard input; a crash raises."""
+    done = subprocess.run(program_words(name), input=data, stdout=subprocess.PIPE, timeout=600)
+    if done.returncode:
+        raise RuntimeError("%s ended with status %d" % (name, done.returncode))
+    return done.stdout
+
+
+def archive():
+    """The static library of the crate host."""
+    path = os.path.join(ROOT, "target", "staticlib", "libhost.a")
+    if not os.path.exists(path):
+        rt("staticlib", "host")
+    return path
+
+
+def host_library():
+    """The archive as a shared object, loaded."""
+    folder = os.path.join(ROOT, "target", "tests")
+    os.makedirs(folder, exist_ok=True)
+    shared = os.path.join(folder, "libhost.so")
+    words = ["gcc", "-shared", "-o", shared, "-Wl,--whole-archive", archive(), "-Wl,--no-whole-archive"]
+    subprocess.run(words, check=True)
+    return ctypes.CDLL(shared)
+
+
+class Report:
+    """Counts what a check found: one line ok or FAIL for each named part, and the exit status."""
+
+    def __init__(self):
+        self.failed = False
+
+    def part(self, name, differences, count):
+        """differences: a list of short texts, empty where all of the count agree."""
+        if differences:
+            self.failed = True
+            print("FAIL %s: %d of %d differ; the first: %s" % (name, len(differences), count, differences[0]))
+        else:
+            print("ok %s (%d)" % (name, count))
+        sys.stdout.flush()
+
+    def exit(self):
+        sys.exit(1 if self.failed else 0)

@@ -1,0 +1,265 @@
+#!/usr/bin/env python3
+"""Makes the stored inputs and outputs of the programs sheet_cases and plan_cases, from the reference.
+
+An input is a run of pieces, each a line bytes=N and N bytes of a sheet. The outputs have a line -- before
+the answer to each piece. As a program:  stored.py   writes crates/*_cases/stdin and stdout anew.
+"""
+
+import os
+
+import reference as ref
+import sheets
+from reference import Sheet
+
+ROOT = os.path.join(os.path.dirname(os.path.abspath(__file__)), "..")
+LONGEST = ref.SHEET_BYTES + 1  # what leastplan reads at most
+
+BASE = Sheet(
+    20,
+    6,
+    [(1, 1), (0, 2), (2, 0)],
+    [0, 1, 2, 0],
+    [(0, 1, 0, 0), (1, 2, -3, 1), (3, 3, 0, 1), (2, 0, -12, 0)],
+)
+BASE_TEXT = ref.sheet_text(BASE)
+
+
+# ---- pieces
+
+
+def framed(pieces):
+    return b"".join(b"bytes=%d\n%s" % (len(p), p) for p in pieces)
+
+
+def marked(answers):
+    return b"".join(b"--\n" + a for a in answers)
+
+
+def read_answer(piece):
+    """What sheet_cases prints for a piece: the answer, and the text of the sheet that was read."""
+    answer, sheet = ref.read_sheet(piece)
+    return b"answer=%d\n" % answer + (b"" if answer else ref.sheet_text(sheet))
+
+
+# ---- sheets for the reader
+
+
+def lines_of(text):
+    return text.split(b"\n")[:-1]
+
+
+def with_line(k, line):
+    rows = lines_of(BASE_TEXT)
+    rows[k] = line
+    return b"\n".join(rows) + b"\n"
+
+
+def line_kinds():
+    """The index of one line of each kind; of types, operations and edges the first and the last."""
+    keys = [row.split(b"=")[0] for row in lines_of(BASE_TEXT)]
+    for key in dict.fromkeys(keys):
+        yield keys.index(key)
+        if key in (b"type", b"op", b"edge"):
+            yield len(keys) - 1 - keys[::-1].index(key)
+
+
+def field_values(key, field):
+    """Values at both sides of both ends of a field."""
+    limits = {
+        (b"horizon", 0): (1, 128),
+        (b"cap", 0): (1, 64),
+        (b"types", 0): (1, 8),
+        (b"type", 0): (0, 8),
+        (b"type", 1): (0, 32),
+        (b"ops", 0): (1, 24),
+        (b"op", 0): (0, len(BASE.types) - 1),
+        (b"edges", 0): (0, 96),
+        (b"edge", 0): (0, len(BASE.ops) - 1),
+        (b"edge", 1): (0, len(BASE.ops) - 1),
+        (b"edge", 2): (-64, 64),
+        (b"edge", 3): (0, 8),
+    }
+    low, high = limits[key, field]
+    return [low - 1, low, low + 1, high - 1, high, high + 1, 999, 1000, 9999, 10000, -1, -9999, -10000]
+
+
+def boundaries():
+    for k in line_kinds():
+        key, rest = lines_of(BASE_TEXT)[k].split(b"=")
+        numbers = rest.split(b",")
+        for field in range(len(numbers)):
+            for value in field_values(key, field):
+                changed = numbers[:field] + [b"%d" % value] + numbers[field + 1 :]
+                yield with_line(k, key + b"=" + b",".join(changed))
+
+
+def counted(types, n, e):
+    """A sheet with these counts, so that a count at its end is followed by as many lines."""
+    edges = [(k % n, (k * 7) % n, -64 + k, k % 9) for k in range(e)]
+    return ref.sheet_text(Sheet(128, 64, [(8, 32)] * types, [k % types for k in range(n)], edges))
+
+
+def counts():
+    for types, n, e in [(1, 1, 0), (8, 24, 96), (7, 23, 95), (2, 2, 1), (8, 1, 96), (1, 24, 0)]:
+        yield counted(types, n, e)
+    yield ref.sheet_text(Sheet(1, 1, [(0, 0)], [0], []))
+    longest = Sheet(128, 64, [(8, 32)] * 8, [7] * 24, [(23, 23, -64, 8)] * 96)
+    yield ref.sheet_text(longest)
+    for text in (counted(8, 24, 96), counted(1, 1, 0)):
+        rows = lines_of(text)
+        yield b"\n".join(rows[:-1]) + b"\n"
+        yield b"\n".join(rows + rows[-1:]) + b"\n"
+
+
+NUMBERS = [b"", b"-0", b"00", b"01", b"+1", b"-1", b"--1", b"1-", b"-", b" 1", b"1 ", b"1.", b"0x1", b"00000", b"12345", b"\xb1", b"1\x00"]
+
+
+def malformations():
+    """At every kind of line: spellings of its numbers, counts of numbers, keys, ends of line, strange bytes."""
+    for k in line_kinds():
+        line = lines_of(BASE_TEXT)[k]
+        key, rest = line.split(b"=")
+        numbers = rest.split(b",")
+        for field in range(len(numbers)):
+            for odd in NUMBERS:
+                yield with_line(k, key + b"=" + b",".join(numbers[:field] + [odd] + numbers[field + 1 :]))
+        yield with_line(k, line + b",")
+        yield with_line(k, line + b",1")
+        yield with_line(k, key + b"=," + rest)
+        yield with_line(k, key + b"=" + b",".join(numbers[:-1]))
+        yield with_line(k, key + b"=" + b",,".join(numbers + [b"1"]))
+        yield with_line(k, key + b"==" + rest)
+        yield with_line(k, key + rest)
+        yield with_line(k, key + b" =" + rest)
+        yield with_line(k, key.upper() + b"=" + rest)
+        yield with_line(k, key[:-1] + b"=" + rest)
+        yield with_line(k, key + b"s=" + rest)
+        yield with_line(k, b"x" + line)
+        yield with_line(k, b" " + line)
+        yield with_line(k, b"")
+        yield with_line(k, line + b"\r")
+        yield with_line(k, line + b" ")
+        yield with_line(k, line + b"\n")
+        yield with_line(k, line + b"\x80")
+        yield with_line(k, bytes([line[0] | 0x80]) + line[1:])
+        rows = lines_of(BASE_TEXT)
+        yield b"\n".join(rows[:k] + rows[k + 1 :]) + b"\n"
+        yield b"\n".join(rows[: k + 1] + rows[k:]) + b"\n"
+        yield b"\n".join(rows[:k]) + (b"\n" if k else b"")
+        yield b"\n".join(rows[: k + 1])
+
+
+def several_faults():
+    """2 before 3 within a line; between lines the earlier one decides; what follows the last line comes last."""
+    yield with_line(4, b"type=9,00")
+    yield with_line(4, b"type=9,33")
+    yield with_line(0, b"horizon=129").replace(b"cap=6", b"cap=x")
+    yield with_line(0, b"horizon=x").replace(b"cap=6", b"cap=65")
+    yield b"horizon=129\nrubbish"
+    yield b"horizon=129"
+    yield b"horizon=12\n"
+    rows = lines_of(BASE_TEXT)
+    for last in (b"edge=2,0,-12,9", b"edge=2,0,-65,0", b"edge=4,0,0,0", b"edge=2,0,-12,0"):
+        for after in (b"", b"x", b"\n", b"edge=0,0,0,0\n", b"\x00"):
+            yield b"\n".join(rows[:-1] + [last]) + b"\n" + after
+    yield b"\n".join(rows[:-1] + [b"edge=9,9,-0,9"]) + b"\n"
+    yield BASE_TEXT.replace(b"\n", b"\r\n")
+    yield BASE_TEXT.replace(b"\n", b"\r")
+    yield BASE_TEXT[:-1]
+    yield BASE_TEXT + BASE_TEXT
+    yield b"\xef\xbb\xbf" + BASE_TEXT
+
+
+def sizes():
+    yield b""
+    yield b"\n"
+    yield bytes(4096)
+    yield bytes(4097)
+    yield b"\xff" * 4096
+    yield BASE_TEXT + b"\n" * (4096 - len(BASE_TEXT))
+    yield BASE_TEXT + b"\n" * (4097 - len(BASE_TEXT))
+    yield b"horizon=" + b"1" * 4088
+    yield b"horizon=" + b"1" * 4089
+
+
+def random_reads(rng, rounds):
+    for _ in range(rounds):
+        text = sheets.text_of(rng.choice([sheets.wide_sheet, sheets.small_sheet, sheets.small_sheet]), rng)
+        yield text
+        yield sheets.damaged(rng, text)[:LONGEST]
+        yield sheets.damaged(rng, sheets.text_of(sheets.small_sheet, rng))[:LONGEST]
+
+
+def reader_pieces():
+    pieces = [BASE_TEXT]
+    for part in (boundaries(), counts(), malformations(), several_faults(), sizes(), random_reads(sheets.seeded(3), 120)):
+        pieces += part
+    return list(dict.fromkeys(pieces))
+
+
+# ---- sheets for leastplan
+
+
+def paper_cases():
+    """Every case of document 01 that is a sheet."""
+    a = Sheet(3, 4, [(1, 1), (0, 1)], [0, 1, 0], [(0, 1, 0, 0), (1, 2, 0, 0), (2, 0, 0, 2)])
+    yield ref.sheet_text(a)
+    yield ref.sheet_text(Sheet(4, 4, a.types, a.ops, a.edges))
+    yield ref.sheet_text(Sheet(5, 5, [(1, 1)], [0, 0], [(0, 1, 3, 0), (1, 0, -5, 0)]))
+    yield ref.sheet_text(Sheet(1, 3, [(1, 1)], [0], [(0, 0, 0, 0)]))
+    yield ref.sheet_text(Sheet(1, 3, [(1, 0)], [0], [(0, 0, 0, 0)]))
+    yield ref.sheet_text(Sheet(1, 1, [(2, 1)], [0, 0, 0], []))
+    yield ref.sheet_text(Sheet(2, 2, [(2, 1)], [0, 0, 0], []))
+    yield ref.sheet_text(Sheet(1, 1, [(1, 2)], [0], []))
+    text = ref.sheet_text(a)
+    yield b""
+    yield text + b"\n" * (4097 - len(text))
+    yield text.replace(b"op=0", b"op=00", 1)
+    yield text.replace(b"horizon=3", b"horizon=129")
+    yield text.replace(b"edge=0,1,0,", b"edge=0,1,-65,")
+    yield text.replace(b"edge=0,1,0,", b"edge=0,1,-0,")
+
+
+def odd_plans():
+    """Ends of the ranges that enumeration can still do."""
+    yield ref.sheet_text(Sheet(128, 64, [(1, 32)], [0, 0], [(0, 1, 64, 0)]))
+    yield ref.sheet_text(Sheet(128, 64, [(0, 32)], [0, 0], [(0, 1, 64, 0), (1, 0, -64, 8)]))
+    yield ref.sheet_text(Sheet(128, 64, [(1, 0)], [0] * 2, []))
+    yield ref.sheet_text(Sheet(1, 64, [(8, 1)], [0] * 8, []))
+    yield ref.sheet_text(Sheet(1, 9, [(8, 1)], [0] * 9, []))
+    yield ref.sheet_text(Sheet(1, 1, [(0, 1)], [0] * 24, []))
+    yield ref.sheet_text(Sheet(2, 2, [(8, 1)], [0] * 16, []))
+    yield ref.sheet_text(Sheet(4, 3, [(0, 1)], [0, 0], [(0, 1, -1, 0), (1, 0, -1, 0)]))
+    yield ref.sheet_text(Sheet(4, 3, [(0, 1)], [0, 0, 0], [(2, 1, 0, 0), (1, 2, 0, 0), (0, 0, 3, 1), (0, 0, 4, 1)]))
+    yield ref.sheet_text(Sheet(2, 2, [(0, 1)], [0], [(0, 0, -2, 0)] * 10 + [(0, 0, 2, 1), (0, 0, 3, 1)]))
+
+
+def plan_pieces():
+    rng = sheets.seeded(4)
+    pieces = list(paper_cases()) + list(odd_plans())
+    pieces += [sheets.text_of(sheets.small_sheet, rng) for _ in range(400)]
+    return list(dict.fromkeys(pieces))
+
+
+# ---- files
+
+
+def stored_files():
+    """(path, content) of each stored file."""
+    reads, plans = reader_pieces(), plan_pieces()
+    yield "crates/sheet_cases/stdin", framed(reads)
+    yield "crates/sheet_cases/stdout", marked(read_answer(p) for p in reads)
+    yield "crates/plan_cases/stdin", framed(plans)
+    yield "crates/plan_cases/stdout", marked(ref.leastplan(p) for p in plans)
+
+
+def main():
+    for path, content in stored_files():
+        folder = os.path.join(ROOT, os.path.dirname(path))
+        os.makedirs(folder, exist_ok=True)
+        with open(os.path.join(ROOT, path), "wb") as out:
+            out.write(content)
+
+
+if __name__ == "__main__":
+    main()
