@@ -5,8 +5,7 @@ use Prim.Native.Nat.{ℕ, _+_, _≤_, _<_}
 use native.Mathlib.Decide.{ℕ-discrete, decLt}
 use native.Mathlib.Omega.{arith}
 use lib.IntN.{ℤ}
-use lib.Seq.{slice}
-use lib.ListN.{length, getD-replicate}
+use lib.ListN.{length, take, getD-replicate}
 use Rattle.laws.specs.Entry.{vec}
 use Rattle.net.specs.Net.{Below}
 use Rattle.dependence.specs.declared.Graph.{Graph}
@@ -53,7 +52,7 @@ more-bad g l h new i a b = pick (ℕ-discrete i l)
 -- the machine's first bad closed walk is refusal 5
 pub refusal : (g : Graph) (L : ℕ) {h : Web} {size : ℕ} {edges : List ℕ} → Agree h (view g L) → FirstLoop h size edges → Refusal g L size edges
 refusal g L {size = size} {edges = edges} a w = record {
-  first = to-first g L (slice 0 size edges) (first-agree a (slice 0 size edges) (w .first));
+  first = to-first g L (take size edges) (first-agree a (take size edges) (w .first));
   few = omega (arith, w .few, a .ops);
   past = w .past;
 }

@@ -6,18 +6,20 @@ ghost use Rattle.net.specs.Net.{Below};
 ghost use Rattle.dependence.specs.Answer.{TableAnswer, Lags};
 ghost use Rattle.dependence.specs.Lag.{LagCells, PeakList};
 use crate::Graph;
+use crate::HIGHEST_FLOOR;
+use crate::MOST_OPERATIONS;
 use crate::questions::in_range;
 use crate::questions::interval_ok;
 use crate::totals::net_of;
 use net::settle;
 
 // The floor 16384 at i, and 0 elsewhere.
-fn peak(i: usize) -> [usize; 24]
+fn peak(i: usize) -> [usize; MOST_OPERATIONS]
     requires { ⌜ i < 24 ⌝ }
     ensures { λ r. ⌜ PeakList i r ⌝ }
 {
-    let mut f = [0usize; 24];
-    f[i] = 16384;
+    let mut f = [0usize; MOST_OPERATIONS];
+    f[i] = HIGHEST_FLOOR;
     f
 }
 
@@ -25,14 +27,14 @@ fn lag(at: usize) -> i32
     requires { ⌜ at ≤ 2000000 ⌝ }
     ensures { λ r. ⌜ r ≡ pos at -ℤ pos 16384 ⌝ }
 {
-    at as i32 - 16384
+    at as i32 - HIGHEST_FLOOR as i32
 }
 
-fn lag_row(ops: usize, starts: [usize; 24]) -> [i32; 24]
+fn lag_row(ops: usize, starts: [usize; MOST_OPERATIONS]) -> [i32; MOST_OPERATIONS]
     requires { ⌜ (ops ≤ 24) × Below 2000000 starts ⌝ }
     ensures { λ r. ⌜ LagCells ops starts r ⌝ }
 {
-    let mut out = [0i32; 24];
+    let mut out = [0i32; MOST_OPERATIONS];
     let mut j: usize = 0;
     while j < ops {
         out[j] = lag(starts[j]);
@@ -43,10 +45,10 @@ fn lag_row(ops: usize, starts: [usize; 24]) -> [i32; 24]
 
 // Cell i j: how much later, at least, j starts than i, in any starts up to 16384 that meet every dependence. As with `separations`, the answer's
 // number is that of `bad_walk`.
-pub fn lags(graph: Graph, interval: usize) -> [[i32; 24]; 24]
+pub fn lags(graph: Graph, interval: usize) -> [[i32; MOST_OPERATIONS]; MOST_OPERATIONS]
     ensures { λ r. ⌜ TableAnswer graph interval (Lags graph interval) r ⌝ }
 {
-    let mut out = [[0i32; 24]; 24];
+    let mut out = [[0i32; MOST_OPERATIONS]; MOST_OPERATIONS];
     if in_range(graph) {
         if interval_ok(interval) {
             let net = net_of(graph, interval);
@@ -56,7 +58,7 @@ pub fn lags(graph: Graph, interval: usize) -> [[i32; 24]; 24]
                 let f = peak(i);
                 let s = settle(net, f);
                 if s.bad {
-                    return [[0; 24]; 24];
+                    return [[0; MOST_OPERATIONS]; MOST_OPERATIONS];
                 }
                 let at = s.at;
                 out[i] = lag_row(ops, at);

@@ -2,6 +2,7 @@
 ghost use mathlib.Core.Path.{_≡_};
 ghost use Rattle.dependence.specs.Answer.{zeros, WalkAnswer};
 use crate::Graph;
+use crate::MOST_OPERATIONS;
 use crate::questions::in_range;
 use crate::questions::interval_ok;
 use crate::totals::net_of;
@@ -12,7 +13,7 @@ use walks::first_bad;
 pub struct BadWalk {
     pub answer: usize,
     pub loop_length: usize,
-    pub loop_edges: [usize; 24],
+    pub loop_edges: [usize; MOST_OPERATIONS],
 }
 
 fn without_loop(answer: usize) -> BadWalk
@@ -21,7 +22,7 @@ fn without_loop(answer: usize) -> BadWalk
     BadWalk {
         answer,
         loop_length: 0,
-        loop_edges: [0; 24],
+        loop_edges: [0; MOST_OPERATIONS],
     }
 }
 
@@ -32,7 +33,7 @@ pub fn bad_walk(graph: Graph, interval: usize) -> BadWalk
     if in_range(graph) {
         if interval_ok(interval) {
             let net = net_of(graph, interval);
-            let s = settle(net, [0; 24]);
+            let s = settle(net, [0; MOST_OPERATIONS]);
             if s.bad {
                 let w = first_bad(net);
                 let loop_edges = w.edges;

@@ -4,6 +4,7 @@ ghost use Prim.Native.Nat.{_≤_};
 ghost use Rattle.dependence.specs.Answer.{zeros, StartsAnswer};
 ghost use Rattle.dependence.specs.Step.{Cut};
 use crate::Graph;
+use crate::MOST_OPERATIONS;
 use crate::questions::floor_ok;
 use crate::questions::interval_ok;
 use crate::totals::net_of;
@@ -11,11 +12,11 @@ use net::settle;
 use walks::first_bad;
 
 // The floor of the operations, and 0 past them.
-fn cut(ops: usize, floor: [usize; 24]) -> [usize; 24]
+fn cut(ops: usize, floor: [usize; MOST_OPERATIONS]) -> [usize; MOST_OPERATIONS]
     requires { ⌜ ops ≤ 24 ⌝ }
     ensures { λ r. ⌜ Cut ops floor r ⌝ }
 {
-    let mut out = [0usize; 24];
+    let mut out = [0usize; MOST_OPERATIONS];
     let mut i: usize = 0;
     while i < ops {
         out[i] = floor[i];
@@ -27,9 +28,9 @@ fn cut(ops: usize, floor: [usize; 24]) -> [usize; 24]
 #[repr(C)]
 pub struct Starts {
     pub answer: usize,
-    pub starts: [usize; 24],
+    pub starts: [usize; MOST_OPERATIONS],
     pub loop_length: usize,
-    pub loop_edges: [usize; 24],
+    pub loop_edges: [usize; MOST_OPERATIONS],
 }
 
 fn refused(answer: usize) -> Starts
@@ -37,14 +38,14 @@ fn refused(answer: usize) -> Starts
 {
     Starts {
         answer,
-        starts: [0; 24],
+        starts: [0; MOST_OPERATIONS],
         loop_length: 0,
-        loop_edges: [0; 24],
+        loop_edges: [0; MOST_OPERATIONS],
     }
 }
 
 // The least starts that are at least the floor and meet every dependence; or 5 with the first bad closed walk.
-pub fn earliest(graph: Graph, interval: usize, floor: [usize; 24]) -> Starts
+pub fn earliest(graph: Graph, interval: usize, floor: [usize; MOST_OPERATIONS]) -> Starts
     ensures { λ r. ⌜ StartsAnswer graph interval floor (r .answer) (r .starts) (r .«loop_length») (r .«loop_edges») ⌝ }
 {
     if floor_ok(graph, floor) {
@@ -57,7 +58,7 @@ pub fn earliest(graph: Graph, interval: usize, floor: [usize; 24]) -> Starts
                 let loop_edges = w.edges;
                 return Starts {
                     answer: 5,
-                    starts: [0; 24],
+                    starts: [0; MOST_OPERATIONS],
                     loop_length: w.length,
                     loop_edges,
                 };
@@ -67,7 +68,7 @@ pub fn earliest(graph: Graph, interval: usize, floor: [usize; 24]) -> Starts
                 answer: 0,
                 starts,
                 loop_length: 0,
-                loop_edges: [0; 24],
+                loop_edges: [0; MOST_OPERATIONS],
             };
         }
         return refused(4);

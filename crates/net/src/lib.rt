@@ -8,19 +8,24 @@ ghost use lib.Signed.{_≤ℤ_, leZ};
 ghost use Rattle.net.specs.Net.{webOf, NetOk, Below};
 ghost use Rattle.net.specs.Starts.{Pushed, Part, AllMet, Settles};
 
+// How many operations and edges a net holds.
+pub const MOST_OPERATIONS: usize = 24;
+
+pub const MOST_EDGES: usize = 96;
+
 // Edges below `count`, from and to operations below `ops`.
 pub struct Net {
     pub ops: u8,
     pub count: u8,
-    pub from: [u8; 96],
-    pub to: [u8; 96],
-    pub weight: [i32; 96],
+    pub from: [u8; MOST_EDGES],
+    pub to: [u8; MOST_EDGES],
+    pub weight: [i32; MOST_EDGES],
 }
 
 // The least starts over a floor, or that a bad closed walk exists.
 pub struct Settled {
     pub bad: bool,
-    pub at: [usize; 24],
+    pub at: [usize; MOST_OPERATIONS],
 }
 
 // A start, after an edge to it.
@@ -33,7 +38,7 @@ fn pushed(from: usize, weight: i32, to: usize) -> usize
 }
 
 // The starts, each after every edge to it.
-fn push_round(net: Net, t: [usize; 24]) -> [usize; 24]
+fn push_round(net: Net, t: [usize; MOST_OPERATIONS]) -> [usize; MOST_OPERATIONS]
     requires { ⌜ NetOk (webOf net) × Below 2000000 t ⌝ }
     ensures { λ r. ⌜ Part (webOf net) t r (net .count) ⌝ }
 {
@@ -56,7 +61,7 @@ fn met(from: usize, weight: i32, to: usize) -> bool
     from as i32 + weight <= to as i32
 }
 
-fn all_met(net: Net, t: [usize; 24]) -> bool
+fn all_met(net: Net, t: [usize; MOST_OPERATIONS]) -> bool
     requires { ⌜ NetOk (webOf net) × Below 2000000 t ⌝ }
     ensures { λ r. ⌜ AllMet (webOf net) t r ⌝ }
 {
@@ -76,7 +81,7 @@ fn all_met(net: Net, t: [usize; 24]) -> bool
 
 // The least starts that are at least the floor and meet every edge, by rounds over the edges; as many rounds as there are operations settle them, or
 // a bad closed walk exists.
-pub fn settle(net: Net, floor: [usize; 24]) -> Settled
+pub fn settle(net: Net, floor: [usize; MOST_OPERATIONS]) -> Settled
     requires { ⌜ NetOk (webOf net) × (1 ≤ net .ops) × Below 16384 floor ⌝ }
     ensures { λ r. ⌜ Settles (webOf net) floor (r .bad) (r .at) ⌝ }
 {
@@ -93,6 +98,6 @@ pub fn settle(net: Net, floor: [usize; 24]) -> Settled
     }
     Settled {
         bad: true,
-        at: [0; 24],
+        at: [0; MOST_OPERATIONS],
     }
 }

@@ -1,3 +1,5 @@
+-- `net::all_met` meets its contract: the edges below e are met, or edge e is not.
+-- Assumes nothing.
 use mathlib.Core.Path.{_≡_, _∙_, sym}
 use Prim.Native.Nat.{ℕ, _≤_, _<_, _-_}
 use native.Mathlib.Omega.{arith}

@@ -1,3 +1,5 @@
+-- `net::push_round` meets its contract: after e edges the vector is `Part` of the old one, and each edge adds itself (`part-next`).
+-- Assumes nothing.
 use mathlib.Core.Path.{_≡_, subst}
 use Prim.Native.Nat.{_≤_, _<_, _-_}
 use native.Mathlib.Omega.{arith}

@@ -1,3 +1,5 @@
+-- `net::settle` meets its contract: after k rounds every walk of at most k edges is covered (`Stands`). Where every edge is met the starts are the least (`settled`);
+-- an edge not met after the last round closes a bad walk (`stuck`). Assumes nothing.
 use mathlib.Core.Path.{sym}
 use mathlib.Core.List.{List}
 use Prim.Native.Nat.{ℕ, _≤_, _<_, _-_}

@@ -1,3 +1,5 @@
+-- `dependence::lag_table::lags` meets its contract: the rows below i are lags (`LagIn`), the others 0.
+-- Assumes nothing.
 use mathlib.Core.Path.{_≡_, _∙_, refl}
 use mathlib.Core.List.{[]}
 use Prim.Native.Nat.{ℕ, _≤_, _<_, _-_}

@@ -1,3 +1,5 @@
+-- `dependence::totals::total` meets its contract, from the questions and `total_of`.
+-- Assumes nothing.
 use mathlib.Core.Path.{_∙_, refl}
 use native.Mathlib.Omega.{arith}
 use borrow.Author.Needs.{needs}

@@ -1,3 +1,5 @@
+-- `dependence::totals::total_of` meets its contract: every step is exact in an `i32`.
+-- Assumes nothing.
 use Prim.Native.Nat.{_*_}
 use native.Mathlib.Omega.{arith}
 use lib.IntN.{pos}
