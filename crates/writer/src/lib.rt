@@ -1,0 +1,162 @@
+// Writes a loop sheet as text into a lent buffer, line by line.
+ghost use mathlib.Core.Path.{_≡_};
+ghost use mathlib.Core.List.{[], _∷_};
+ghost use Prim.Native.Nat.{_<_, _≤_};
+ghost use lib.IntN.{pos};
+ghost use lib.ListN.{length, getD};
+ghost use Rattle.text.specs.Text.{lineText, over};
+ghost use Rattle.text.specs.Line.{keyOf, textOf};
+ghost use Rattle.sheet.specs.Sheet.{InRange, TypeInRange, EdgeInRange};
+ghost use Rattle.sheet.specs.Text.{typeLine, opLine, edgeLine, sheetLines, sheetText};
+ghost use Rattle.writer.specs.Wrote.{Wrote};
+ghost use Rattle.writer.specs.Lines.{lineTextOf, noLine};
+use dependence::Edge;
+use sheet::Operation;
+use sheet::ResourceType;
+use sheet::Sheet;
+use text::Line;
+use text::Written;
+
+// ---- one line of each kind
+
+// A number of the sheet as a line takes it.
+fn number(n: usize) -> i32
+    requires { ⌜ n ≤ 9999 ⌝ }
+    ensures { λ r. ⌜ r ≡ pos n ⌝ }
+{
+    n as i32
+}
+
+// A line with one number.
+fn count_line(key: usize, n: usize) -> Line
+    requires { ⌜ n ≤ 9999 ⌝ }
+    ensures { λ r. ⌜ textOf r ≡ lineText (keyOf key) (pos n ∷ []) ⌝ }
+{
+    text::line_of(key, 1, number(n), 0, 0, 0)
+}
+
+fn type_line(t: ResourceType) -> Line
+    requires { ⌜ TypeInRange t ⌝ }
+    ensures { λ r. ⌜ textOf r ≡ lineTextOf (typeLine t) ⌝ }
+{
+    text::line_of(text::TYPE, 2, number(t.instances), number(t.latency), 0, 0)
+}
+
+fn op_line(o: Operation) -> Line
+    requires { ⌜ o .resource ≤ 9999 ⌝ }
+    ensures { λ r. ⌜ textOf r ≡ lineTextOf (opLine o) ⌝ }
+{
+    count_line(text::OP, o.resource)
+}
+
+fn edge_line(e: Edge) -> Line
+    requires { ⌜ EdgeInRange 24 e ⌝ }
+    ensures { λ r. ⌜ textOf r ≡ lineTextOf (edgeLine e) ⌝ }
+{
+    text::line_of(
+        text::EDGE,
+        4,
+        number(e.from),
+        number(e.to),
+        e.delay,
+        number(e.distance),
+    )
+}
+
+// ---- the lines of a sheet by their places
+
+// The first three lines.
+fn head_line(s: Sheet, i: usize) -> Line
+    requires { ⌜ InRange s × (i < 3) ⌝ }
+    ensures { λ r. ⌜ textOf r ≡ lineTextOf (getD (sheetLines s) i noLine) ⌝ }
+{
+    if i == 0 {
+        return count_line(text::HORIZON, s.horizon);
+    }
+    if i == 1 {
+        return count_line(text::CAP, s.cap);
+    }
+    count_line(text::TYPES, s.type_count)
+}
+
+fn line_at(s: Sheet, i: usize) -> Line
+    requires { ⌜ InRange s × (i < length (sheetLines s)) ⌝ }
+    ensures { λ r. ⌜ textOf r ≡ lineTextOf (getD (sheetLines s) i noLine) ⌝ }
+{
+    if i < 3 {
+        return head_line(s, i);
+    }
+    let j = i - 3;
+    if j < s.type_count {
+        return type_line(s.types[j]);
+    }
+    if j == s.type_count {
+        return count_line(text::OPS, s.op_count);
+    }
+    let k = j - s.type_count - 1;
+    if k < s.op_count {
+        return op_line(s.ops[k]);
+    }
+    if k == s.op_count {
+        return count_line(text::EDGES, s.edge_count);
+    }
+    edge_line(s.edges[k - s.op_count - 1])
+}
+
+fn line_count(s: Sheet) -> usize
+    requires { ⌜ InRange s ⌝ }
+    ensures { λ r. ⌜ (r ≡ length (sheetLines s)) × (r ≤ 133) ⌝ }
+{
+    5 + s.type_count + s.op_count + s.edge_count
+}
+
+// ---- the whole text
+
+fn text_length(s: Sheet) -> usize
+    requires { ⌜ InRange s ⌝ }
+    ensures { λ r. ⌜ r ≡ length (sheetText s) ⌝ }
+{
+    let lines = line_count(s);
+    let mut total = 0;
+    let mut i = 0;
+    while i < lines {
+        total += text::line_length(line_at(s, i));
+        i += 1;
+    }
+    total
+}
+
+// The text at the front of `out`, which takes it, and how many bytes it has.
+fn fill(s: Sheet, out: &mut [u8]) -> usize
+    requires { ⌜ InRange s × (length (sheetText s) ≤ length (now out)) ⌝ }
+    ensures { λ r. ⌜ (r ≡ length (sheetText s)) × (now (out .exit) ≡ over (sheetText s) (now (out .entry))) ⌝ }
+{
+    let lines = line_count(s);
+    let mut at = 0;
+    let mut i = 0;
+    while i < lines {
+        at += text::put_line(&mut out[at..], line_at(s, i));
+        i += 1;
+    }
+    at
+}
+
+// The sheet's text at the front of `out` and its count of bytes; 3, or 9 where the whole text does not fit, and then `out` stays as it was.
+pub fn write(s: Sheet, out: &mut [u8]) -> Written
+    ensures { λ r. ⌜ Wrote s (now (out .entry)) r (now (out .exit)) ⌝ }
+{
+    if !sheet::in_range(s) {
+        return Written {
+            answer: 3,
+            count: 0,
+        };
+    }
+    if out.len() < text_length(s) {
+        return Written {
+            answer: 9,
+            count: 0,
+        };
+    }
+    let count = fill(s, out);
+    Written { answer: 0, count }
+}
