@@ -36,9 +36,9 @@ def marked(answers):
 
 
 def read_answer(piece):
-    """What sheet_cases prints for a piece: the answer, and the text of the sheet that was read."""
+    """What sheet_cases prints for a piece: the answer, then the text written back and the writer's 9 in a short buffer."""
     answer, sheet = ref.read_sheet(piece)
-    return b"answer=%d\n" % answer + (b"" if answer else ref.sheet_text(sheet))
+    return b"answer=%d\n" % answer + (b"" if answer else b"written=0\n" + ref.sheet_text(sheet) + b"written=9\n")
 
 
 # ---- sheets for the reader

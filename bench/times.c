@@ -1,0 +1,62 @@
+/* Times the plan text of each interval that leastplan asks about, through the C archive.
+   Standard input: pieces, each a line bytes=N and N bytes of a sheet. Standard output, a line for each
+   interval: sheet, interval, answer, nanoseconds. Standard error: the greatest depth of the stack. */
+#include <pthread.h>
+#include <stdint.h>
+#include <stdio.h>
+#include <stdlib.h>
+#include <string.h>
+#include <sys/mman.h>
+#include <time.h>
+
+#include "leastplan.h"
+
+enum { LONGEST = 4097, MOST_INTERVALS = 64, STACK = 64 << 20, PAINT = 0xA5 };
+
+static int64_t now(void)
+{
+    struct timespec t;
+    clock_gettime(CLOCK_MONOTONIC, &t);
+    return t.tv_sec * INT64_C(1000000000) + t.tv_nsec;
+}
+
+static void time_sheet(int number, const uint8_t *sheet, size_t length)
+{
+    static uint8_t text[4096];
+    for (uint64_t interval = 1; interval <= MOST_INTERVALS; interval++) {
+        int64_t began = now();
+        uint64_t answer = leastplan_plan_text(sheet, length, interval, text, sizeof text).answer;
+        int64_t took = now() - began;
+        if (answer == 4) return;
+        printf("%d %d %d %lld\n", number, (int)interval, (int)answer, (long long)took);
+        if (answer == 0) return;
+    }
+}
+
+static void *all_sheets(void *unused)
+{
+    static uint8_t sheet[LONGEST];
+    unsigned length;
+    for (int number = 0; scanf("bytes=%u", &length) == 1 && length <= LONGEST && getchar() == '\n'; number++) {
+        if (fread(sheet, 1, length, stdin) != length) break;
+        time_sheet(number, sheet, length);
+    }
+    return unused;
+}
+
+/* Runs all on a stack of its own that is painted first: what is no longer painted was used. */
+int main(void)
+{
+    uint8_t *stack = mmap(NULL, STACK, PROT_READ | PROT_WRITE, MAP_PRIVATE | MAP_ANONYMOUS, -1, 0);
+    pthread_attr_t attributes;
+    pthread_t thread;
+    size_t untouched = 0;
+    if (stack == MAP_FAILED) return 1;
+    memset(stack, PAINT, STACK);
+    pthread_attr_init(&attributes);
+    if (pthread_attr_setstack(&attributes, stack, STACK)) return 1;
+    if (pthread_create(&thread, &attributes, all_sheets, NULL) || pthread_join(thread, NULL)) return 1;
+    while (untouched < STACK && stack[untouched] == PAINT) untouched++;
+    fprintf(stderr, "greatest depth of the stack: %zu bytes\n", (size_t)STACK - untouched);
+    return 0;
+}
