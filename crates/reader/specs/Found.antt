@@ -1,0 +1,74 @@
+-- Reading lines from the front of the bytes: what is found and what follows it, or the number of a refusal.
+use Prim.Native.Nat.{ℕ, zero, suc, _-_, _≤_}
+use mathlib.Core.Path.{_≡_}
+use mathlib.Core.List.{List, [], _∷_, _++_}
+use mathlib.Core.Bool.{Bool, true, false, cond}
+use lib.Dec.{eqb}
+use lib.IntN.{ℤ}
+use lib.ListN.{length, drop, take, replicate}
+use Rattle.scan.specs.Line.{onFields, lineOf}
+
+pub data Found (A : Type 0) : Type 0 where
+  found : A → List ℕ → Found A
+  refused : ℕ → Found A
+
+-- go on with what was found; a refusal stays
+abbrev pub andThen : {A B : Type 0} → Found A → (A → List ℕ → Found B) → Found B
+andThen (found a rest) f = f a rest
+andThen (refused n) f = refused n
+
+-- A kind of line: its key, how many numbers it has, the place of the one that may carry a minus, the entry that the numbers stand for,
+-- the numbers of an entry, and whether each is in its range.
+pub record Kind (A : Type 0) : Type 0 where
+  pub key : List ℕ
+  pub count : ℕ
+  pub minus : ℕ
+  pub make : List ℤ → A
+  pub values : A → List ℤ
+  pub inside : A → Bool
+
+-- one line: well formed and under the due key, else 2; then each number in its range, else 3
+unfoldable pub lineFrom : {A : Type 0} → Kind A → List ℕ → Found A
+lineFrom k bs =
+    onFields (lineOf (k .key) (k .count) (k .minus) bs)
+    (λ vs rest. cond (k .inside (k .make vs)) (found (k .make vs) rest) (refused 3))
+    (refused 2)
+
+-- n lines more, after the entries es
+unfoldable pub linesFrom : {A : Type 0} → Kind A → ℕ → List A → List ℕ → Found (List A)
+linesFrom k zero es bs = found es bs
+linesFrom k (suc n) es bs = andThen (lineFrom k bs) (λ a rest. linesFrom k n (es ++ (a ∷ [])) rest)
+
+-- a line with a count, and that many lines
+unfoldable pub sectionFrom : {A : Type 0} → Kind ℕ → Kind A → List ℕ → Found (List A)
+sectionFrom counts k bs = andThen (lineFrom counts bs) (λ n rest. linesFrom k n [] rest)
+
+-- ---- the same at a place of the bytes s, as the code has it
+
+-- the answer and, where it is 0, what was found and the place after it
+unfoldable pub seen : {A : Type 0} → List ℕ → ℕ → A → ℕ → Found A
+seen s answer a next = cond (eqb answer 0) (found a (drop next s)) (refused answer)
+
+pub record Reads {A : Type 0} (s : List ℕ) (answer : ℕ) (a : A) (next : ℕ) (want : Found A) : Type 0 where
+  pub same : seen s answer a next ≡ want
+  pub within : next ≤ length s
+
+-- the entries with d past them, up to the size of the array
+abbrev pub padded : {A : Type 0} → ℕ → A → List A → List A
+padded size d es = es ++ replicate (size - length es) d
+
+-- an array that holds count entries, and d past them
+pub record Filled {A : Type 0} (size : ℕ) (d : A) (count : ℕ) (array : List A) : Type 0 where
+  pub long : length array ≡ size
+  pub few : count ≤ size
+  pub rest : array ≡ padded size d (take count array)
+
+-- a refusal, with nothing beside it
+pub record Refuses {A : Type 0} (n size : ℕ) (d : A) (answer count : ℕ) (array : List A) (next : ℕ) : Type 0 where
+  pub answered : answer ≡ n
+  pub nowhere : next ≡ 0
+  pub empty : Filled size d count array
+
+-- the entries of a section that were read
+abbrev pub Entries : {A : Type 0} → ℕ → A → List ℕ → ℕ → ℕ → List A → ℕ → Found (List A) → Type 0
+Entries size d s answer count array next want = Reads s answer (take count array) next want × Filled size d count array

@@ -1,0 +1,6 @@
+pub mod Found
+pub mod Kinds
+pub mod Read
+pub mod Decide
+pub mod Steps
+pub mod Whole

@@ -1,0 +1,111 @@
+// Reads a loop sheet from bytes: question 1, then line by line questions 2 and 3.
+ghost use mathlib.Core.Path.{_≡_};
+ghost use Rattle.reader.specs.Read.{readOf, refusal};
+
+mod lines;
+mod sections;
+
+use crate::lines::MALFORMED;
+use crate::lines::read_number;
+use crate::sections::read_edges;
+use crate::sections::read_ops;
+use crate::sections::read_types;
+use dependence::Edge;
+use sheet::CAP;
+use sheet::HORIZON;
+use sheet::MOST_EDGES;
+use sheet::MOST_OPERATIONS;
+use sheet::MOST_TYPES;
+use sheet::Operation;
+use sheet::ResourceType;
+use sheet::Sheet;
+
+// The most bytes of a sheet.
+const LONGEST: usize = 4096;
+
+// The answer to question 1.
+const TOO_LONG: usize = 1;
+
+// The answer and, where it is 0, the sheet; with a refusal every number of the sheet is 0.
+#[repr(C)]
+pub struct ReadAnswer {
+    pub answer: usize,
+    pub sheet: Sheet,
+}
+
+fn refuse(answer: usize) -> ReadAnswer
+    ensures { λ r. ⌜ r ≡ refusal answer ⌝ }
+{
+    let no_type = ResourceType {
+        instances: 0,
+        latency: 0,
+    };
+    let no_operation = Operation { resource: 0 };
+    let no_edge = Edge {
+        from: 0,
+        to: 0,
+        delay: 0,
+        distance: 0,
+    };
+    ReadAnswer {
+        answer,
+        sheet: Sheet {
+            horizon: 0,
+            cap: 0,
+            type_count: 0,
+            types: [no_type; MOST_TYPES],
+            op_count: 0,
+            ops: [no_operation; MOST_OPERATIONS],
+            edge_count: 0,
+            edges: [no_edge; MOST_EDGES],
+        },
+    }
+}
+
+// The sheet whose text these bytes are, or the number of the refusal.
+pub fn read(bytes: &[u8]) -> ReadAnswer
+    ensures { λ r. ⌜ r ≡ readOf (now (bytes .entry)) ⌝ }
+{
+    if LONGEST < bytes.len() {
+        return refuse(TOO_LONG);
+    }
+    let horizon = read_number(bytes, 0, b"horizon=", HORIZON);
+    if horizon.answer != 0 {
+        return refuse(horizon.answer);
+    }
+    let cap = read_number(bytes, horizon.next, b"cap=", CAP);
+    if cap.answer != 0 {
+        return refuse(cap.answer);
+    }
+    let types = read_types(bytes, cap.next);
+    if types.answer != 0 {
+        return refuse(types.answer);
+    }
+    let ops = read_ops(bytes, types.next, types.count);
+    if ops.answer != 0 {
+        return refuse(ops.answer);
+    }
+    let edges = read_edges(bytes, ops.next, ops.count);
+    if edges.answer != 0 {
+        return refuse(edges.answer);
+    }
+    if edges.next < bytes.len() {
+        return refuse(MALFORMED);
+    }
+    let type_entries = types.entries;
+    let op_entries = ops.entries;
+    let edge_entries = edges.entries;
+    ReadAnswer {
+        answer: 0,
+        sheet: Sheet {
+            horizon: horizon.value,
+            cap: cap.value,
+            type_count: types.count,
+            types: type_entries,
+            op_count: ops.count,
+            ops: op_entries,
+            edge_count: edges.count,
+            edges: edge_entries,
+        },
+    }
+}

@@ -1,0 +1,173 @@
+// One line of a sheet: the answer (2 before 3), its entry and the place after it. With a refusal the others are 0.
+ghost use lib.ListN.{drop};
+ghost use Rattle.reader.specs.Found.{Reads, lineFrom};
+ghost use Rattle.reader.specs.Kinds.{numberKind, typeKind, opKind, edgeKind};
+use dependence::Edge;
+use sheet::Operation;
+use sheet::ResourceType;
+
+// The answers to questions 2 and 3.
+pub const MALFORMED: usize = 2;
+
+const OUT_OF_RANGE: usize = 3;
+
+// No number of the line may carry a minus.
+const NO_MINUS: usize = 8;
+
+// The place of the delay, which may carry a minus, in its line.
+const DELAY_PLACE: usize = 2;
+
+pub struct NumberRead {
+    pub answer: usize,
+    pub value: usize,
+    pub next: usize,
+}
+
+// The line with this key and one number, in the range of a field.
+pub fn read_number(s: &[u8], at: usize, key: &[u8], field: usize) -> NumberRead
+    ensures { λ r. ⌜ Reads (now (s .entry)) (r .answer) (r .value) (r .next) (lineFrom (numberKind (now (key .entry)) field) (drop at (now (s .entry)))) ⌝ }
+{
+    let line = scan::read_line(s, at, key, 1, NO_MINUS);
+    if !line.ok {
+        return NumberRead {
+            answer: MALFORMED,
+            value: 0,
+            next: 0,
+        };
+    }
+    let values = line.values;
+    let value = values[0];
+    if !sheet::inside(field, value) {
+        return NumberRead {
+            answer: OUT_OF_RANGE,
+            value: 0,
+            next: 0,
+        };
+    }
+    NumberRead {
+        answer: 0,
+        value: value as usize,
+        next: line.next,
+    }
+}
+
+pub struct TypeRead {
+    pub answer: usize,
+    pub entry: ResourceType,
+    pub next: usize,
+}
+
+// The line `type=A,D`.
+pub fn read_type(s: &[u8], at: usize) -> TypeRead
+    ensures { λ r. ⌜ Reads (now (s .entry)) (r .answer) (r .entry) (r .next) (lineFrom typeKind (drop at (now (s .entry)))) ⌝ }
+{
+    let none = ResourceType {
+        instances: 0,
+        latency: 0,
+    };
+    let line = scan::read_line(s, at, b"type=", 2, NO_MINUS);
+    if !line.ok {
+        return TypeRead {
+            answer: MALFORMED,
+            entry: none,
+            next: 0,
+        };
+    }
+    let values = line.values;
+    let entry = ResourceType {
+        instances: values[0] as usize,
+        latency: values[1] as usize,
+    };
+    if !sheet::type_in_range(entry) {
+        return TypeRead {
+            answer: OUT_OF_RANGE,
+            entry: none,
+            next: 0,
+        };
+    }
+    TypeRead {
+        answer: 0,
+        entry,
+        next: line.next,
+    }
+}
+
+pub struct OpRead {
+    pub answer: usize,
+    pub entry: Operation,
+    pub next: usize,
+}
+
+// The line `op=r`, where r is below the count of types.
+pub fn read_op(s: &[u8], at: usize, types: usize) -> OpRead
+    ensures { λ r. ⌜ Reads (now (s .entry)) (r .answer) (r .entry) (r .next) (lineFrom (opKind types) (drop at (now (s .entry)))) ⌝ }
+{
+    let none = Operation { resource: 0 };
+    let line = scan::read_line(s, at, b"op=", 1, NO_MINUS);
+    if !line.ok {
+        return OpRead {
+            answer: MALFORMED,
+            entry: none,
+            next: 0,
+        };
+    }
+    let values = line.values;
+    let resource = values[0] as usize;
+    if types <= resource {
+        return OpRead {
+            answer: OUT_OF_RANGE,
+            entry: none,
+            next: 0,
+        };
+    }
+    OpRead {
+        answer: 0,
+        entry: Operation { resource },
+        next: line.next,
+    }
+}
+
+pub struct EdgeRead {
+    pub answer: usize,
+    pub entry: Edge,
+    pub next: usize,
+}
+
+// The line `edge=i,j,d,b`, where i and j are below the count of operations.
+pub fn read_edge(s: &[u8], at: usize, ops: usize) -> EdgeRead
+    ensures { λ r. ⌜ Reads (now (s .entry)) (r .answer) (r .entry) (r .next) (lineFrom (edgeKind ops) (drop at (now (s .entry)))) ⌝ }
+{
+    let none = Edge {
+        from: 0,
+        to: 0,
+        delay: 0,
+        distance: 0,
+    };
+    let line = scan::read_line(s, at, b"edge=", 4, DELAY_PLACE);
+    if !line.ok {
+        return EdgeRead {
+            answer: MALFORMED,
+            entry: none,
+            next: 0,
+        };
+    }
+    let values = line.values;
+    let entry = Edge {
+        from: values[0] as usize,
+        to: values[1] as usize,
+        delay: values[2],
+        distance: values[3] as usize,
+    };
+    if !sheet::edge_in_range(ops, entry) {
+        return EdgeRead {
+            answer: OUT_OF_RANGE,
+            entry: none,
+            next: 0,
+        };
+    }
+    EdgeRead {
+        answer: 0,
+        entry,
+        next: line.next,
+    }
+}

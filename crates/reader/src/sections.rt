@@ -1,0 +1,208 @@
+// The sections of a sheet: a line with a count, then that many lines. The answer, how many entries, the entries with 0 past them, and the place after.
+ghost use mathlib.Core.List.{[]};
+ghost use Prim.Native.Nat.{_≤_};
+ghost use lib.ListN.{drop, length};
+ghost use Rattle.dependence.specs.Graph.{noEdge};
+ghost use Rattle.sheet.specs.Sheet.{noOperation, noType};
+ghost use Rattle.reader.specs.Found.{Entries, Refuses, linesFrom, sectionFrom};
+ghost use Rattle.reader.specs.Kinds.{edgeKind, edgesKind, opKind, opsKind, typeKind, typesKind};
+use crate::lines::read_edge;
+use crate::lines::read_number;
+use crate::lines::read_op;
+use crate::lines::read_type;
+use dependence::Edge;
+use sheet::EDGES;
+use sheet::MOST_EDGES;
+use sheet::MOST_OPERATIONS;
+use sheet::MOST_TYPES;
+use sheet::OPERATIONS;
+use sheet::Operation;
+use sheet::ResourceType;
+use sheet::TYPES;
+
+pub struct TypesRead {
+    pub answer: usize,
+    pub count: usize,
+    pub entries: [ResourceType; MOST_TYPES],
+    pub next: usize,
+}
+
+fn no_types(answer: usize) -> TypesRead
+    ensures { λ r. ⌜ Refuses answer 8 noType (r .answer) (r .count) (r .entries) (r .next) ⌝ }
+{
+    let none = ResourceType {
+        instances: 0,
+        latency: 0,
+    };
+    TypesRead {
+        answer,
+        count: 0,
+        entries: [none; MOST_TYPES],
+        next: 0,
+    }
+}
+
+// Count lines of types, from `at`.
+fn type_lines(s: &[u8], at: usize, count: usize) -> TypesRead
+    requires { ⌜ (at ≤ length (now s)) × (count ≤ 8) ⌝ }
+    ensures { λ r. ⌜ Entries 8 noType (now (s .entry)) (r .answer) (r .count) (r .entries) (r .next) (linesFrom typeKind count [] (drop at (now (s .entry)))) ⌝ }
+{
+    let none = ResourceType {
+        instances: 0,
+        latency: 0,
+    };
+    let mut entries = [none; MOST_TYPES];
+    let mut p = at;
+    let mut i: usize = 0;
+    while i < count {
+        let line = read_type(s, p);
+        if line.answer != 0 {
+            return no_types(line.answer);
+        }
+        let entry = line.entry;
+        entries[i] = entry;
+        p = line.next;
+        i += 1;
+    }
+    TypesRead {
+        answer: 0,
+        count,
+        entries,
+        next: p,
+    }
+}
+
+// The line `types=` with a count, and that many lines of types.
+pub fn read_types(s: &[u8], at: usize) -> TypesRead
+    ensures { λ r. ⌜ Entries 8 noType (now (s .entry)) (r .answer) (r .count) (r .entries) (r .next) (sectionFrom typesKind typeKind (drop at (now (s .entry)))) ⌝ }
+{
+    let count = read_number(s, at, b"types=", TYPES);
+    if count.answer != 0 {
+        return no_types(count.answer);
+    }
+    type_lines(s, count.next, count.value)
+}
+
+pub struct OpsRead {
+    pub answer: usize,
+    pub count: usize,
+    pub entries: [Operation; MOST_OPERATIONS],
+    pub next: usize,
+}
+
+fn no_ops(answer: usize) -> OpsRead
+    ensures { λ r. ⌜ Refuses answer 24 noOperation (r .answer) (r .count) (r .entries) (r .next) ⌝ }
+{
+    let none = Operation { resource: 0 };
+    OpsRead {
+        answer,
+        count: 0,
+        entries: [none; MOST_OPERATIONS],
+        next: 0,
+    }
+}
+
+// Count lines of operations, from `at`.
+fn op_lines(s: &[u8], at: usize, count: usize, types: usize) -> OpsRead
+    requires { ⌜ (at ≤ length (now s)) × (count ≤ 24) ⌝ }
+    ensures { λ r. ⌜ Entries 24 noOperation (now (s .entry)) (r .answer) (r .count) (r .entries) (r .next) (linesFrom (opKind types) count [] (drop at (now (s .entry)))) ⌝ }
+{
+    let none = Operation { resource: 0 };
+    let mut entries = [none; MOST_OPERATIONS];
+    let mut p = at;
+    let mut i: usize = 0;
+    while i < count {
+        let line = read_op(s, p, types);
+        if line.answer != 0 {
+            return no_ops(line.answer);
+        }
+        let entry = line.entry;
+        entries[i] = entry;
+        p = line.next;
+        i += 1;
+    }
+    OpsRead {
+        answer: 0,
+        count,
+        entries,
+        next: p,
+    }
+}
+
+// The line `ops=` with a count, and that many lines of operations.
+pub fn read_ops(s: &[u8], at: usize, types: usize) -> OpsRead
+    ensures { λ r. ⌜ Entries 24 noOperation (now (s .entry)) (r .answer) (r .count) (r .entries) (r .next) (sectionFrom opsKind (opKind types) (drop at (now (s .entry)))) ⌝ }
+{
+    let count = read_number(s, at, b"ops=", OPERATIONS);
+    if count.answer != 0 {
+        return no_ops(count.answer);
+    }
+    op_lines(s, count.next, count.value, types)
+}
+
+pub struct EdgesRead {
+    pub answer: usize,
+    pub count: usize,
+    pub entries: [Edge; MOST_EDGES],
+    pub next: usize,
+}
+
+fn no_edges(answer: usize) -> EdgesRead
+    ensures { λ r. ⌜ Refuses answer 96 noEdge (r .answer) (r .count) (r .entries) (r .next) ⌝ }
+{
+    let none = Edge {
+        from: 0,
+        to: 0,
+        delay: 0,
+        distance: 0,
+    };
+    EdgesRead {
+        answer,
+        count: 0,
+        entries: [none; MOST_EDGES],
+        next: 0,
+    }
+}
+
+// Count lines of edges, from `at`.
+fn edge_lines(s: &[u8], at: usize, count: usize, ops: usize) -> EdgesRead
+    requires { ⌜ (at ≤ length (now s)) × (count ≤ 96) ⌝ }
+    ensures { λ r. ⌜ Entries 96 noEdge (now (s .entry)) (r .answer) (r .count) (r .entries) (r .next) (linesFrom (edgeKind ops) count [] (drop at (now (s .entry)))) ⌝ }
+{
+    let none = Edge {
+        from: 0,
+        to: 0,
+        delay: 0,
+        distance: 0,
+    };
+    let mut entries = [none; MOST_EDGES];
+    let mut p = at;
+    let mut i: usize = 0;
+    while i < count {
+        let line = read_edge(s, p, ops);
+        if line.answer != 0 {
+            return no_edges(line.answer);
+        }
+        let entry = line.entry;
+        entries[i] = entry;
+        p = line.next;
+        i += 1;
+    }
+    EdgesRead {
+        answer: 0,
+        count,
+        entries,
+        next: p,
+    }
+}
+
+// The line `edges=` with a count, and that many lines of edges.
+pub fn read_edges(s: &[u8], at: usize, ops: usize) -> EdgesRead
+    ensures { λ r. ⌜ Entries 96 noEdge (now (s .entry)) (r .answer) (r .count) (r .entries) (r .next) (sectionFrom edgesKind (edgeKind ops) (drop at (now (s .entry)))) ⌝ }
+{
+    let count = read_number(s, at, b"edges=", EDGES);
+    if count.answer != 0 {
+        return no_edges(count.answer);
+    }
+    edge_lines(s, count.next, count.value, ops)
+}
