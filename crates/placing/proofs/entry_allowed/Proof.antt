@@ -1,0 +1,38 @@
+-- `placing::entry_allowed` meets its contract: what is placed and what is not, by the laws of `Entries`.
+-- Assumes nothing.
+use native.Mathlib.Omega.{arith}
+use borrow.Author.Tests.{not-true, not-false}
+use Rattle.dependence.specs.Graph.{no-says}
+use Rattle.sheet.specs.Tests.{last}
+use Rattle.placing.specs.Entries.{lt-says, eq-says, empty-allowed, placed-allowed}
+use borrow.Author.Needs.{needs}
+use Rattle.placing.proofs.entry_allowed.Statement.{statement}
+use Rattle.placing.proofs.entry_allowed.Tie as tie
+
+returns : tie.Need-returns
+returns c = no-says (λ x. c .if2 .taken (x .empty (not-true _ (c .before .before .if1 .taken)) .0))
+
+returns-2 : tie.Need-returns-2
+returns-2 c =
+    let f = not-true _ (c .before .before .before .if1 .taken) in
+    last (eq-says _ 0) (λ e. empty-allowed f (c .before .if2 .left) e) (λ x. x .empty f .1)
+
+returns-3 : tie.Need-returns-3
+returns-3 c = no-says (λ x. absurd (omega (arith, c .if3 .taken, x .within (not-false _ (c .before .before .if1 .left)))))
+
+returns-4 : tie.Need-returns-4
+returns-4 c = no-says (λ x. absurd (omega (arith, c .if4 .taken, x .start (not-false _ (c .before .before .before .before .before .if1 .left)))))
+
+room-requires : tie.Need-room-requires
+room-requires c κs = search needs
+
+returns-5 : tie.Need-returns-5
+returns-5 c =
+    let t = not-false _ (c .before .before .before .before .before .before .before .if1 .left) in
+    last (lt-says _ (c .before .room .result))
+    (λ h. placed-allowed t (omega (arith, c .before .before .before .before .before .if3 .left)) (omega (arith, c .before .before .if4 .left)) (c .before .room .ensures .allowed _ h))
+    (λ x. c .before .room .ensures .below _ (x .instance t))
+
+pub entry-allowed-spec : {M : Type 1} → statement M
+entry-allowed-spec =
+    tie.close (tie.spec returns returns-2 returns-3 returns-4 room-requires returns-5)

@@ -1,0 +1,18 @@
+-- `placing::room` meets its contract, by the laws of `Room`.
+-- Assumes nothing.
+use Rattle.placing.specs.Room.{room-one, room-many}
+use borrow.Author.Needs.{needs}
+use Rattle.placing.proofs.room.Statement.{statement}
+use Rattle.placing.proofs.room.Tie as tie
+
+instances-of-requires : tie.Need-instances-of-requires
+instances-of-requires c κs = search needs
+
+returns : tie.Need-returns
+returns c = room-one (c .before .instances-of .ensures) (c .if1 .taken)
+
+returns-2 : tie.Need-returns-2
+returns-2 c = room-many (c .before .instances-of .ensures) (c .if1 .left)
+
+pub room-spec : {M : Type 1} → statement M
+room-spec = tie.close (tie.spec instances-of-requires returns returns-2)

@@ -1,0 +1,61 @@
+-- Laws of a table's entries: past its end nothing is placed, and an entry is allowed by what its test finds. And tests of two numbers.
+-- Assumes nothing.
+use mathlib.Core.Path.{_≡_, refl, sym, subst, _∙_}
+use mathlib.Core.Bool.{Bool, true, false}
+use Prim.Native.Nat.{ℕ, _<_, _≤_, _%_}
+use native.Mathlib.Decide.{decLt}
+use native.Mathlib.Nat.{mod-zero}
+use native.Mathlib.Omega.{arith}
+use lib.Dec.{ltb, eqb}
+use lib.ListN.{length, List·getD-eq-default}
+use borrow.Author.Tests.{ltb-true, ltb-false, eqb-true, eqb-false}
+use Rattle.laws.specs.Z.{true-false}
+use Rattle.dependence.specs.Graph.{Says}
+use Rattle.sheet.specs.declared.Sheet.{Sheet}
+use Rattle.plan.specs.Rules.{InstanceAllowed}
+use Rattle.placing.specs.declared.Placement.{Placement}
+use Rattle.placing.specs.declared.Table.{Table}
+use Rattle.placing.specs.Table.{nothing, placementAt, Placed, EntryAllowed}
+
+pub lt-says : (a b : ℕ) → Says (a < b) (ltb a b)
+lt-says a b = record { yes = ltb-true a b; no = λ e h. let l = ltb-false a b e in omega arith }
+
+pub eq-says : (a b : ℕ) → Says (a ≡ b) (eqb a b)
+eq-says a b = record { yes = eqb-true a b; no = eqb-false a b }
+
+-- a remainder by 0 is the number itself
+pub whole-slot : (interval start : ℕ) → interval ≡ 0 → start ≡ start % interval
+whole-slot interval start e = sym (subst (λ (n : ℕ). start % n ≡ start) (sym e) (mod-zero start))
+
+-- ---- past the end
+
+module _ (table : Table) (n : length (table .entries) ≡ 24) {i : ℕ} (h : 24 ≤ i) where
+  pub past-end : placementAt table i ≡ nothing
+  past-end = List·getD-eq-default (table .entries) nothing (omega arith)
+
+  pub unplaced-past : Placed table i → ⊥
+  unplaced-past p = true-false (sym p ∙ subst (λ (x : Placement). x .placed ≡ false) (sym past-end) refl)
+
+-- ---- an entry
+
+pub empty-allowed : {s : Sheet} {i : ℕ} {p : Placement} → p .placed ≡ false → p .start ≡ 0 → p .instance ≡ 0 → EntryAllowed s i p
+empty-allowed f t u = record {
+  within = λ e. true-false (sym e ∙ f);
+  start = λ e. true-false (sym e ∙ f);
+  instance = λ e. true-false (sym e ∙ f);
+  empty = λ _. (t, u);
+}
+
+pub placed-allowed : {s : Sheet} {i : ℕ} {p : Placement} → p .placed ≡ true → i < s .«op_count» → p .start < s .horizon → InstanceAllowed s i (p .instance) → EntryAllowed s i p
+placed-allowed f n t u = record { within = λ _. n; start = λ _. t; instance = λ _. u; empty = λ e. true-false (sym f ∙ e) }
+
+pub past-allowed : (s : Sheet) (table : Table) → length (table .entries) ≡ 24 → (i : ℕ) → 24 ≤ i → EntryAllowed s i (placementAt table i)
+past-allowed s table n i h = subst (EntryAllowed s i) (sym (past-end table n h)) (empty-allowed refl refl refl)
+
+-- what holds of each entry of the table, and past its end, holds of every number
+pub everywhere : (P : ℕ → Type 0) → ((i : ℕ) → i < 24 → P i) → ((i : ℕ) → 24 ≤ i → P i) → (i : ℕ) → P i
+everywhere P below past i = at (decLt i 24)
+  where
+    at : Dec (i < 24) → P i
+    at (yes h) = below i h
+    at (no h) = past i (omega arith)

@@ -1,0 +1,71 @@
+-- The placing table (modulo reservation table) as its rules read it: what an entry may be, what is taken, what is free, when the table is consistent.
+use Prim.Native.Nat.{ℕ, _<_, _≤_}
+use mathlib.Core.Path.{_≡_}
+use mathlib.Core.Bool.{true, false}
+use lib.ListN.{getD, replicate, set}
+use Rattle.sheet.specs.declared.Sheet.{Sheet}
+use Rattle.plan.specs.Rules.{InstanceAllowed, Rivals, Overlap}
+use Rattle.placing.specs.declared.Placement.{Placement}
+use Rattle.placing.specs.declared.Table.{Table}
+
+abbrev pub nothing : Placement
+nothing = record { placed = false; start = 0; instance = 0 }
+
+-- a new table has nothing placed
+abbrev pub emptyTable : Table
+emptyTable = record { entries = replicate 24 nothing }
+
+abbrev pub placementAt : Table → ℕ → Placement
+placementAt table i = getD (table .entries) i nothing
+
+abbrev pub Placed : Table → ℕ → Type 0
+Placed table i = placementAt table i .placed ≡ true
+
+-- ---- question 10: the table is consistent
+
+-- starts from 0 to H − 1, instances as in the rules of a plan, both 0 where nothing is placed, nothing placed past the sheet's operations
+pub record EntryAllowed (s : Sheet) (i : ℕ) (p : Placement) : Type 0 where
+  pub within : p .placed ≡ true → i < s .«op_count»
+  pub start : p .placed ≡ true → p .start < s .horizon
+  pub instance : p .placed ≡ true → InstanceAllowed s i (p .instance)
+  pub empty : p .placed ≡ false → (p .start ≡ 0) × (p .instance ≡ 0)
+
+-- operation j, a placed rival of op, has the instance u in the slot that op has at this start
+pub record Taken (s : Sheet) (L : ℕ) (table : Table) (op start u j : ℕ) : Type 0 where
+  pub placed : Placed table j
+  pub rivals : Rivals s op j
+  pub instance : placementAt table j .instance ≡ u
+  pub overlap : Overlap s L op start j (placementAt table j .start)
+
+abbrev pub Untaken : Sheet → ℕ → Table → ℕ → ℕ → ℕ → Type 0
+Untaken s L table op start u = (j : ℕ) → Taken s L table op start u j → ⊥
+
+-- no rival takes the instance of a placed operation
+abbrev pub Apart : Sheet → ℕ → Table → ℕ → Type 0
+Apart s L table i = Placed table i → Untaken s L table i (placementAt table i .start) (placementAt table i .instance)
+
+pub record Consistent (s : Sheet) (L : ℕ) (table : Table) : Type 0 where
+  pub entries : (i : ℕ) → EntryAllowed s i (placementAt table i)
+  -- no two placed rivals with one slot and instance
+  pub apart : (i : ℕ) → Apart s L table i
+
+-- ---- placing
+
+-- question 11: the operation number and the start are in range
+pub record Target (s : Sheet) (op start : ℕ) : Type 0 where
+  pub operation : op < s .«op_count»
+  pub inHorizon : start < s .horizon
+
+-- an instance that operation op can get at this start
+pub record Free (s : Sheet) (L : ℕ) (table : Table) (op start u : ℕ) : Type 0 where
+  pub allowed : InstanceAllowed s op u
+  pub untaken : Untaken s L table op start u
+
+-- the lowest of them; of an unlimited type that is 0
+pub record LowestFree (s : Sheet) (L : ℕ) (table : Table) (op start u : ℕ) : Type 0 where
+  pub free : Free s L table op start u
+  pub lowest : (v : ℕ) → Free s L table op start v → u ≤ v
+
+-- the table with this one operation placed besides
+abbrev pub placing : Table → ℕ → ℕ → ℕ → Table
+placing table op start u = record { entries = set (table .entries) op (record { placed = true; start = start; instance = u }) }

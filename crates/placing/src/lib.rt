@@ -1,0 +1,325 @@
+// The placing table (modulo reservation table) of a sheet at an interval: which operations are placed, at which start, on which instance.
+ghost use Prim.Native.Nat.{ℕ, _≤_, _<_};
+ghost use mathlib.Core.Path.{_≡_};
+ghost use Rattle.dependence.specs.Graph.{Says};
+ghost use Rattle.sheet.specs.Sheet.{typeOf};
+ghost use Rattle.plan.specs.Rules.{Rivals, Overlap, slot};
+ghost use Rattle.placing.specs.Table.{placementAt, Placed, EntryAllowed, Taken, Untaken, Apart, Consistent, Target};
+ghost use Rattle.placing.specs.Answers.{NewAt, PlaceAt};
+ghost use Rattle.placing.specs.Room.{Room, FirstUntaken};
+use sheet::MOST_OPERATIONS;
+use sheet::MOST_TYPES;
+use sheet::Sheet;
+
+// Where an operation is placed. Both numbers are 0 where nothing is.
+#[repr(C)]
+pub struct Placement {
+    pub placed: bool,
+    pub start: usize,
+    pub instance: usize,
+}
+
+// An entry for each operation.
+#[repr(C)]
+pub struct Table {
+    pub entries: [Placement; MOST_OPERATIONS],
+}
+
+#[repr(C)]
+pub struct NewTable {
+    pub answer: usize,
+    pub table: Table,
+}
+
+// The answer, the instance that the operation got, and the table afterwards.
+#[repr(C)]
+pub struct PlaceAnswer {
+    pub answer: usize,
+    pub instance: usize,
+    pub table: Table,
+}
+
+// ---- a new table
+
+// A table in which nothing is placed: questions 3 and 4.
+pub fn new_table(sheet: Sheet, interval: usize) -> NewTable
+    ensures { λ r. ⌜ NewAt sheet interval r ⌝ }
+{
+    let nothing = Placement {
+        placed: false,
+        start: 0,
+        instance: 0,
+    };
+    let table = Table {
+        entries: [nothing; MOST_OPERATIONS],
+    };
+    if !sheet::in_range(sheet) {
+        return NewTable { answer: 3, table };
+    }
+    if !sheet::interval_in_range(sheet, interval) {
+        return NewTable { answer: 4, table };
+    }
+    NewTable { answer: 0, table }
+}
+
+// ---- the rules for two operations
+
+// The instances of an operation's type; 0 is unlimited.
+fn instances_of(sheet: Sheet, op: usize) -> usize
+    requires { ⌜ op < 24 ⌝ }
+    ensures { λ r. ⌜ r ≡ typeOf sheet op .instances ⌝ }
+{
+    let operation = sheet.ops[op];
+    let resource = operation.resource;
+    if MOST_TYPES <= resource {
+        return 0;
+    }
+    let found = sheet.types[resource];
+    found.instances
+}
+
+fn rivals(sheet: Sheet, i: usize, j: usize) -> bool
+    requires { ⌜ (i < 24) × (j < 24) ⌝ }
+    ensures { λ r. ⌜ Says (Rivals sheet i j) r ⌝ }
+{
+    if i == j {
+        return false;
+    }
+    let a = sheet.ops[i];
+    let b = sheet.ops[j];
+    if a.resource != b.resource {
+        return false;
+    }
+    0 < instances_of(sheet, i)
+}
+
+fn slot_of(interval: usize, start: usize) -> usize
+    ensures { λ r. ⌜ r ≡ slot interval start ⌝ }
+{
+    if interval == 0 {
+        return start;
+    }
+    start % interval
+}
+
+// Whether operation i at the start t and operation j at the start u may not share an instance.
+fn overlap(sheet: Sheet, interval: usize, i: usize, t: usize, j: usize, u: usize) -> bool
+    ensures { λ r. ⌜ Says (Overlap sheet interval i t j u) r ⌝ }
+{
+    slot_of(interval, t) == slot_of(interval, u)
+}
+
+// ---- what is taken
+
+// Whether operation j takes the instance from operation op at this start.
+fn takes(
+    sheet: Sheet,
+    interval: usize,
+    table: Table,
+    op: usize,
+    start: usize,
+    instance: usize,
+    j: usize,
+) -> bool
+    requires { ⌜ (op < 24) × (j < 24) ⌝ }
+    ensures { λ r. ⌜ Says (Taken sheet interval table op start instance j) r ⌝ }
+{
+    let p = table.entries[j];
+    if !p.placed {
+        return false;
+    }
+    if p.instance != instance {
+        return false;
+    }
+    if !overlap(sheet, interval, op, start, j, p.start) {
+        return false;
+    }
+    rivals(sheet, op, j)
+}
+
+// Whether no operation takes the instance from operation op at this start.
+fn untaken(
+    sheet: Sheet,
+    interval: usize,
+    table: Table,
+    op: usize,
+    start: usize,
+    instance: usize,
+) -> bool
+    requires { ⌜ op < 24 ⌝ }
+    ensures { λ r. ⌜ Says (Untaken sheet interval table op start instance) r ⌝ }
+{
+    let mut j: usize = 0;
+    while j < MOST_OPERATIONS {
+        if takes(sheet, interval, table, op, start, instance, j) {
+            return false;
+        }
+        j += 1;
+    }
+    true
+}
+
+// How many instances an operation can get: those of its type, or the one of an unlimited type.
+fn room(sheet: Sheet, op: usize) -> usize
+    requires { ⌜ op < 24 ⌝ }
+    ensures { λ r. ⌜ Room sheet op r ⌝ }
+{
+    let limit = instances_of(sheet, op);
+    if limit == 0 {
+        return 1;
+    }
+    limit
+}
+
+// The first instance below the limit that no operation takes, or the limit.
+fn first_untaken(
+    sheet: Sheet,
+    interval: usize,
+    table: Table,
+    op: usize,
+    start: usize,
+    limit: usize,
+) -> usize
+    requires { ⌜ op < 24 ⌝ }
+    ensures { λ r. ⌜ FirstUntaken sheet interval table op start limit r ⌝ }
+{
+    let mut u: usize = 0;
+    while u < limit {
+        if untaken(sheet, interval, table, op, start, u) {
+            return u;
+        }
+        u += 1;
+    }
+    limit
+}
+
+// ---- question 10
+
+// Whether an entry is one that operation i can have.
+fn entry_allowed(sheet: Sheet, i: usize, p: Placement) -> bool
+    requires { ⌜ i < 24 ⌝ }
+    ensures { λ r. ⌜ Says (EntryAllowed sheet i p) r ⌝ }
+{
+    if !p.placed {
+        if p.start != 0 {
+            return false;
+        }
+        return p.instance == 0;
+    }
+    if sheet.op_count <= i {
+        return false;
+    }
+    if sheet.horizon <= p.start {
+        return false;
+    }
+    p.instance < room(sheet, i)
+}
+
+fn entries_allowed(sheet: Sheet, table: Table) -> bool
+    ensures { λ r. ⌜ Says ((i : ℕ) → EntryAllowed sheet i (placementAt table i)) r ⌝ }
+{
+    let mut i: usize = 0;
+    while i < MOST_OPERATIONS {
+        let p = table.entries[i];
+        if !entry_allowed(sheet, i, p) {
+            return false;
+        }
+        i += 1;
+    }
+    true
+}
+
+// Whether operation i, where it is placed, shares its instance with no rival.
+fn apart(sheet: Sheet, interval: usize, table: Table, i: usize) -> bool
+    requires { ⌜ i < 24 ⌝ }
+    ensures { λ r. ⌜ Says (Apart sheet interval table i) r ⌝ }
+{
+    let p = table.entries[i];
+    if !p.placed {
+        return true;
+    }
+    untaken(sheet, interval, table, i, p.start, p.instance)
+}
+
+fn all_apart(sheet: Sheet, interval: usize, table: Table) -> bool
+    ensures { λ r. ⌜ Says ((i : ℕ) → Apart sheet interval table i) r ⌝ }
+{
+    let mut i: usize = 0;
+    while i < MOST_OPERATIONS {
+        if !apart(sheet, interval, table, i) {
+            return false;
+        }
+        i += 1;
+    }
+    true
+}
+
+// Whether the table is one of this sheet at this interval.
+pub fn consistent(sheet: Sheet, interval: usize, table: Table) -> bool
+    ensures { λ r. ⌜ Says (Consistent sheet interval table) r ⌝ }
+{
+    if !entries_allowed(sheet, table) {
+        return false;
+    }
+    all_apart(sheet, interval, table)
+}
+
+// ---- placing
+
+// Question 11.
+fn target_in_range(sheet: Sheet, op: usize, start: usize) -> bool
+    ensures { λ r. ⌜ Says (Target sheet op start) r ⌝ }
+{
+    if sheet.op_count <= op {
+        return false;
+    }
+    start < sheet.horizon
+}
+
+fn refuse(answer: usize, table: Table) -> PlaceAnswer
+    ensures { λ r. ⌜ r ≡ record { answer = answer; instance = 0; table = table } ⌝ }
+{
+    PlaceAnswer {
+        answer,
+        instance: 0,
+        table,
+    }
+}
+
+// Places an operation at a start on the lowest instance that is free there: questions 3, 4, 10 to 13. Dependences are not considered.
+pub fn place(sheet: Sheet, interval: usize, table: Table, op: usize, start: usize) -> PlaceAnswer
+    ensures { λ r. ⌜ PlaceAt sheet interval table op start r ⌝ }
+{
+    if !sheet::in_range(sheet) {
+        return refuse(3, table);
+    }
+    if !sheet::interval_in_range(sheet, interval) {
+        return refuse(4, table);
+    }
+    if !consistent(sheet, interval, table) {
+        return refuse(10, table);
+    }
+    if !target_in_range(sheet, op, start) {
+        return refuse(11, table);
+    }
+    let mut entries = table.entries;
+    let p = entries[op];
+    if p.placed {
+        return refuse(12, table);
+    }
+    let limit = room(sheet, op);
+    let instance = first_untaken(sheet, interval, table, op, start, limit);
+    if limit <= instance {
+        return refuse(13, table);
+    }
+    entries[op] = Placement {
+        placed: true,
+        start,
+        instance,
+    };
+    PlaceAnswer {
+        answer: 0,
+        instance,
+        table: Table { entries },
+    }
+}
