@@ -8,6 +8,7 @@ use Rattle.placing.specs.Table.{emptyTable, placementAt, Placed, Consist
 use Rattle.placing.specs.declared.Table.{Table}
 use Rattle.placing.specs.declared.NewTable.{NewTable}
 use Rattle.placing.specs.declared.PlaceAnswer.{PlaceAnswer}
+use Rattle.placing.specs.declared.Outcome.{Outcome}
 
 pub data NewAt (s : Sheet) (L : ℕ) : NewTable → Type 0 where
   sheet-out-of-range : (InRange s → ⊥) → NewAt s L (record { answer = 3; table = emptyTable })
@@ -34,3 +35,7 @@ pub data PlaceAt (s : Sheet) (L : ℕ) (table : Table) (op start : ℕ) : PlaceA
       PlaceAt s L table op start (refused 13 table)
   placed : Ready s L table → Target s op start → placementAt table op .placed ≡ false → {u : ℕ} → LowestFree s L table op start u →
       PlaceAt s L table op start (record { answer = 0; instance = u; table = placing table op start u })
+
+-- the answer of a placing in a table that the caller keeps, with that table afterwards
+abbrev pub whole : Outcome → Table → PlaceAnswer
+whole r table = record { answer = r .answer; instance = r .instance; table = table }

@@ -5,7 +5,7 @@ ghost use Rattle.dependence.specs.Graph.{Says};
 ghost use Rattle.sheet.specs.Sheet.{typeOf};
 ghost use Rattle.plan.specs.Rules.{Rivals, Overlap, slot};
 ghost use Rattle.placing.specs.Table.{placementAt, Placed, EntryAllowed, Taken, Untaken, Apart, Consistent, Target};
-ghost use Rattle.placing.specs.Answers.{NewAt, PlaceAt};
+ghost use Rattle.placing.specs.Answers.{NewAt, PlaceAt, whole};
 ghost use Rattle.placing.specs.Room.{Room, FirstUntaken};
 use sheet::MOST_OPERATIONS;
 use sheet::MOST_TYPES;
@@ -321,5 +321,31 @@ pub fn place(sheet: Sheet, interval: usize, table: Table, op: usize, start: usiz
         answer: 0,
         instance,
         table: Table { entries },
+    }
+}
+
+// What a placing answers besides the table.
+#[repr(C)]
+pub struct Outcome {
+    pub answer: usize,
+    pub instance: usize,
+}
+
+// The same on a table that the caller keeps: it stores the operation's start and instance there, and nothing with a refusal.
+pub fn place_into(
+    table: &mut Table,
+    sheet: Sheet,
+    interval: usize,
+    op: usize,
+    start: usize,
+) -> Outcome
+    ensures { λ r. ⌜ PlaceAt sheet interval (now (table .entry)) op start (whole r (now (table .exit))) ⌝ }
+{
+    let t = *table;
+    let r = place(sheet, interval, t, op, start);
+    *table = r.table;
+    Outcome {
+        answer: r.answer,
+        instance: r.instance,
     }
 }
