@@ -301,9 +301,8 @@ def interval_lines(interval, plan):
     return "".join(row + "\n" for row in rows).encode()
 
 
-def plan_text(sheet, interval):
-    """(answer, text): the text only with 0."""
-    plan = plan_at(sheet, interval)
+def plan_text(interval, plan):
+    """(answer, text) from what plan_at gives: the text only with 0."""
     return plan[0], interval_lines(interval, plan) if plan[0] == 0 else b""
 
 
@@ -337,7 +336,12 @@ def pair_members(pair):
 
 def slot_order(sheet, interval, pair):
     """(answer, order)"""
-    answer, starts, _, _ = plan_at(sheet, interval)
+    return slot_order_in(sheet, interval, plan_at(sheet, interval), pair)
+
+
+def slot_order_in(sheet, interval, plan, pair):
+    """The same from what plan_at gives, so that it need not be found again for each pair."""
+    answer, starts, _, _ = plan
     if answer:
         return answer, 0
     n = len(sheet.ops)
