@@ -1,0 +1,100 @@
+-- Each kind of line is lawful: an entry is made again from its numbers, and the numbers of a well-formed line from its entry.
+-- Assumes nothing.
+use mathlib.Core.Path.{_≡_, refl, sym, ap, _∙_}
+use mathlib.Core.Bool.{Bool, true, false}
+use mathlib.Core.List.{List, [], _∷_}
+use Prim.Native.Nat.{ℕ, suc, _≤_, _<_}
+use native.Mathlib.Omega.{arith}
+use lib.IntN.{ℤ, pos, negsuc, natAbs}
+use lib.ListN.{length}
+use Rattle.laws.specs.Z.{zed}
+use Rattle.dependence.specs.declared.Edge.{Edge}
+use Rattle.dependence.specs.Graph.{Says, yes-says}
+use Rattle.scan.specs.RoundTrip.{Writable}
+use Rattle.sheet.specs.Ranges as range
+use Rattle.sheet.specs.Table.{range-short, inside-short}
+use Rattle.sheet.specs.declared.Operation.{Operation}
+use Rattle.sheet.specs.declared.ResourceType.{ResourceType}
+use Rattle.reader.specs.Found.{Kind}
+use Rattle.reader.specs.Kinds.{numberKind, typeKind, opKind, edgeKind}
+use Rattle.reader.specs.Decide.{one-flag, inside-says, type-says, op-says, edge-says}
+use Rattle.reader.specs.Steps.{plain-nat}
+
+pub record Lawful {A : Type 0} (k : Kind A) : Type 0 where
+  pub size : (a : A) → length (k .values a) ≡ k .count
+  pub back : (a : A) → k .make (k .values a) ≡ a
+  pub forth : (vs : List ℤ) → length vs ≡ k .count → Writable (k .minus) 0 vs → k .values (k .make vs) ≡ vs
+  pub writable : (a : A) → k .inside a ≡ true → Writable (k .minus) 0 (k .values a)
+
+-- what holds has the flag true
+pub flag-true : {P : Type 0} {b : Bool} → Says P b → P → b ≡ true
+flag-true s p = one-flag s (yes-says p)
+
+-- a number in the range of a field has at most four digits
+short : (field : ℕ) (z : ℤ) → range.Inside field z → natAbs z ≤ 9999
+short field (pos n) i = inside-short i
+short field (negsuc n) i = omega (arith, zed, i .low, range-short field .low .low)
+
+module _ (key : List ℕ) (field : ℕ) where
+  number-forth : (vs : List ℤ) → length vs ≡ 1 → Writable 8 0 vs → numberKind key field .values (numberKind key field .make vs) ≡ vs
+  number-forth [] e w = absurd (omega arith)
+  number-forth (v ∷ []) e w = ap (λ (z : ℤ). z ∷ []) (sym (plain-nat v (w .1)))
+  number-forth (v ∷ x ∷ vs) e w = absurd (omega arith)
+
+  pub number-lawful : Lawful (numberKind key field)
+  number-lawful = record {
+    size = λ n. refl;
+    back = λ n. refl;
+    forth = number-forth;
+    writable = λ n e. (inside-short (inside-says field (pos n) .yes e), refl, tt);
+  }
+
+type-forth : (vs : List ℤ) → length vs ≡ 2 → Writable 8 0 vs → typeKind .values (typeKind .make vs) ≡ vs
+type-forth [] e w = absurd (omega arith)
+type-forth (a ∷ []) e w = absurd (omega arith)
+type-forth (a ∷ b ∷ []) e w = λ i. sym (plain-nat a (w .1)) i ∷ sym (plain-nat b (w .2 .1)) i ∷ []
+type-forth (a ∷ b ∷ x ∷ vs) e w = absurd (omega arith)
+
+pub type-lawful : Lawful typeKind
+type-lawful = record {
+  size = λ t. refl;
+  back = λ t. refl;
+  forth = type-forth;
+  writable = λ t e. let x = type-says t .yes e in (inside-short (x .instances), refl, (inside-short (x .latency), refl, tt));
+}
+
+module _ (types : ℕ) (few : types ≤ 9999) where
+  op-forth : (vs : List ℤ) → length vs ≡ 1 → Writable 8 0 vs → opKind types .values (opKind types .make vs) ≡ vs
+  op-forth [] e w = absurd (omega arith)
+  op-forth (v ∷ []) e w = ap (λ (z : ℤ). z ∷ []) (sym (plain-nat v (w .1)))
+  op-forth (v ∷ x ∷ vs) e w = absurd (omega arith)
+
+  pub op-lawful : Lawful (opKind types)
+  op-lawful = record {
+    size = λ o. refl;
+    back = λ o. refl;
+    forth = op-forth;
+    writable = λ o e. let x = op-says types o .yes e in (omega arith, refl, tt);
+  }
+
+module _ (ops : ℕ) (few : ops ≤ 9999) where
+  edge-forth : (vs : List ℤ) → length vs ≡ 4 → Writable 2 0 vs → edgeKind ops .values (edgeKind ops .make vs) ≡ vs
+  edge-forth [] e w = absurd (omega arith)
+  edge-forth (a ∷ []) e w = absurd (omega arith)
+  edge-forth (a ∷ b ∷ []) e w = absurd (omega arith)
+  edge-forth (a ∷ b ∷ c ∷ []) e w = absurd (omega arith)
+  edge-forth (a ∷ b ∷ c ∷ d ∷ []) e w =
+      λ i. sym (plain-nat a (w .1)) i ∷ sym (plain-nat b (w .2 .1)) i ∷ c ∷ sym (plain-nat d (w .2 .2 .2 .1)) i ∷ []
+  edge-forth (a ∷ b ∷ c ∷ d ∷ x ∷ vs) e w = absurd (omega arith)
+
+  pub edge-lawful : Lawful (edgeKind ops)
+  edge-lawful = record {
+    size = λ e. refl;
+    back = λ e. refl;
+    forth = edge-forth;
+    writable = λ e t.
+        let x = edge-says ops e .yes t in
+        let f = x .from in
+        let g = x .to in
+        (omega arith, refl, (omega arith, refl, (short range.delay (e .delay) (x .delay), tt, (inside-short (x .distance), refl, tt))));
+  }
