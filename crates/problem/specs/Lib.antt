@@ -1,0 +1,5 @@
+pub mod Domain
+pub mod Task
+pub mod Parts
+pub mod Ready
+pub mod Bridge

@@ -1,0 +1,117 @@
+// The services on plans: the plan at an interval and the least interval.
+ghost use mathlib.Core.Path.{_≡_};
+ghost use Prim.Native.Nat.{ℕ, _≤_, _<_};
+ghost use Rattle.sheet.specs.Sheet.{InRange, Interval};
+ghost use Rattle.plan.specs.Answers.{PlanAt, Least, refused};
+ghost use Rattle.problem.specs.Bridge.{Cut};
+ghost use Rattle.schedule.specs.Served.{NoBadWalk};
+use plan::IntervalAnswer;
+use plan::PlanAnswer;
+use sheet::Sheet;
+
+// The first n numbers, and 0 past them.
+fn cut(n: usize, xs: [usize; 24]) -> [usize; 24]
+    requires { ⌜ n ≤ 24 ⌝ }
+    ensures { λ r. ⌜ Cut n xs r ⌝ }
+{
+    let mut out = [0usize; 24];
+    let mut i: usize = 0;
+    while i < n {
+        out[i] = xs[i];
+        i += 1;
+    }
+    out
+}
+
+// A refusal: its number, and 0 for every other number.
+fn refusal(answer: usize) -> PlanAnswer
+    ensures { λ r. ⌜ r ≡ refused answer ⌝ }
+{
+    PlanAnswer {
+        answer,
+        starts: [0; 24],
+        instances: [0; 24],
+        loop_length: 0,
+        loop_edges: [0; 24],
+    }
+}
+
+// Question 6: the first plan, or that there is none.
+fn first_plan(sheet: Sheet, interval: usize) -> PlanAnswer
+    requires { ⌜ InRange sheet × Interval sheet interval × NoBadWalk sheet interval ⌝ }
+    ensures { λ r. ⌜ PlanAt sheet interval r ⌝ }
+{
+    let graph = sheet::graph_of(sheet);
+    let lags = dependence::lags(graph, interval);
+    let task = problem::build::task_of(sheet, interval, lags);
+    let domain = problem::allowed::allowed_domain(sheet, interval);
+    let found = search::first_plan(task, domain);
+    if found.yes {
+        let n = sheet.op_count;
+        let x = found.starts;
+        let starts = cut(n, x);
+        let u = instances::instances(task, starts);
+        let instances = cut(n, u);
+        return PlanAnswer {
+            answer: 0,
+            starts,
+            instances,
+            loop_length: 0,
+            loop_edges: [0; 24],
+        };
+    }
+    refusal(6)
+}
+
+// The plan at an interval that comes before every other, or why there is none: 3, 4, 5 with the first bad closed walk, 6.
+pub fn plan_at(sheet: Sheet, interval: usize) -> PlanAnswer
+    ensures { λ r. ⌜ PlanAt sheet interval r ⌝ }
+{
+    if sheet::in_range(sheet) {
+        if sheet::interval_in_range(sheet, interval) {
+            let graph = sheet::graph_of(sheet);
+            let walk = dependence::bad_walk(graph, interval);
+            if walk.answer == 5 {
+                let loop_edges = walk.loop_edges;
+                return PlanAnswer {
+                    answer: 5,
+                    starts: [0; 24],
+                    instances: [0; 24],
+                    loop_length: walk.loop_length,
+                    loop_edges,
+                };
+            }
+            return first_plan(sheet, interval);
+        }
+        return refusal(4);
+    }
+    refusal(3)
+}
+
+// The least interval from 1 to the cap that has a plan, or why there is none: 3, 7.
+pub fn least_interval(sheet: Sheet) -> IntervalAnswer
+    ensures { λ r. ⌜ Least sheet r ⌝ }
+{
+    if sheet::in_range(sheet) {
+        let cap = sheet.cap;
+        let mut interval: usize = 1;
+        while interval <= cap {
+            let plan = plan_at(sheet, interval);
+            if plan.answer == 0 {
+                return IntervalAnswer {
+                    answer: 0,
+                    interval,
+                };
+            }
+            interval += 1;
+        }
+        return IntervalAnswer {
+            answer: 7,
+            interval: 0,
+        };
+    }
+    IntervalAnswer {
+        answer: 3,
+        interval: 0,
+    }
+}
