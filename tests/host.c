@@ -47,7 +47,7 @@ static uint8_t *copy_of(const char *text, size_t length)
 static int least_is(const char *text, size_t length, uint64_t answer, uint64_t interval)
 {
     uint8_t *sheet = copy_of(text, length);
-    LEAST got = LEAST_INTERVAL(sheet, length);
+    leastplan_interval got = leastplan_least_interval(sheet, length);
     free(sheet);
     return got.answer == answer && got.interval == interval;
 }
@@ -56,7 +56,7 @@ static int order_is(const char *text, uint64_t interval, uint64_t pair, uint64_t
 {
     size_t length = strlen(text);
     uint8_t *sheet = copy_of(text, length);
-    ORDER got = SLOT_ORDER(sheet, length, interval, pair);
+    leastplan_order got = leastplan_slot_order(sheet, length, interval, pair);
     free(sheet);
     return got.answer == answer && got.order == order;
 }
@@ -68,7 +68,7 @@ static int text_is(const char *text, size_t length, uint64_t interval, size_t ro
     size_t written = answer == 0 ? strlen(plan) : 0;
     int good;
     memset(out, FILL, room);
-    TEXT got = PLAN_TEXT(sheet, length, interval, out, room);
+    leastplan_text got = leastplan_plan_text(sheet, length, interval, out, room);
     good = got.answer == answer && got.count == written;
     if (written) good = good && memcmp(out, plan, written) == 0;
     for (size_t k = written; k < room; k++) good = good && out[k] == FILL;
@@ -107,8 +107,8 @@ static void buffers(void)
     EXPECT(text_is(A, strlen(A), 3, strlen(PLAN_A), 0, PLAN_A));
     EXPECT(text_is(A, strlen(A), 3, strlen(PLAN_A) + 1, 0, PLAN_A));
     EXPECT(text_is(A, strlen(A), 2, 0, 6, ""));
-    EXPECT(PLAN_TEXT((const uint8_t *)A, strlen(A), 3, NULL, 0).answer == 9);
-    EXPECT(PLAN_TEXT((const uint8_t *)A, strlen(A), 1, NULL, 0).answer == 5);
+    EXPECT(leastplan_plan_text((const uint8_t *)A, strlen(A), 3, NULL, 0).answer == 9);
+    EXPECT(leastplan_plan_text((const uint8_t *)A, strlen(A), 1, NULL, 0).answer == 5);
 }
 
 static void pairs(void)
@@ -130,9 +130,9 @@ static void refused_sheets(void)
 {
     static char longer[LONGEST + 1];
     char damaged[sizeof A];
-    EXPECT(LEAST_INTERVAL(NULL, 0).answer == 2);
-    EXPECT(PLAN_TEXT(NULL, 0, 1, NULL, 0).answer == 2);
-    EXPECT(SLOT_ORDER(NULL, 0, 1, 0).answer == 2);
+    EXPECT(leastplan_least_interval(NULL, 0).answer == 2);
+    EXPECT(leastplan_plan_text(NULL, 0, 1, NULL, 0).answer == 2);
+    EXPECT(leastplan_slot_order(NULL, 0, 1, 0).answer == 2);
     EXPECT(least_is("", 0, 2, 0));
     for (size_t length = 0; length < strlen(A); length++) EXPECT(least_is(A, length, 2, 0));
     memset(longer, '\n', sizeof longer);
