@@ -1,0 +1,187 @@
+-- The claims of the table: what each says, in the definitions of the rules, and the test that shows it.
+use mathlib.Core.Path.{_≡_, refl, sym, ap, ap₂, subst, _∙_}
+use mathlib.Core.Bool.{Bool, true, false, cond, not}
+use mathlib.Core.Logic.{_⊎_, inl, inr}
+use mathlib.Core.List.{List, [], _∷_, _++_}
+use Prim.Native.Nat.{ℕ, zero, suc, _+_, _*_, _-_, _/_, _<_, _≤_}
+use native.Mathlib.Omega.{arith}
+use native.Mathlib.Decide.{decLt}
+use lib.Dec.{eqb, ltb, leb}
+use lib.ListN.{length, replicate, length-replicate, length-append, List·getD-eq-default}
+use lib.IntN.{ℤ, pos}
+use borrow.Author.Tests.{eqb-true, ltb-true, lt-ltb, leb-true, le-leb, not-true}
+use Rattle.laws.specs.Z.{true-false}
+use Rattle.laws.specs.Count.{bit, tally, tally-none, tally-more, both-true, both-show}
+use Rattle.laws.specs.Store.{all-zero}
+use Rattle.dependence.specs.Rules.{Meets, BadWalk}
+use Rattle.dependence.specs.Answer as dependence
+use Rattle.dependence.specs.Feasible.{infeasible-exactly}
+use Rattle.sheet.specs.declared.Sheet.{Sheet}
+use Rattle.sheet.specs.Sheet.{InRange, Interval, opAt, typeAt, graphOf}
+use Rattle.sheet.specs.Facts.{graph-in-range, interval-in-range, cap-in-range, ops-most}
+use Rattle.plan.specs.declared.PlanAnswer.{PlanAnswer}
+use Rattle.plan.specs.Rules.{Plan}
+use Rattle.plan.specs.Resource.{resourceBound, greatest, shareOf}
+use native.Mathlib.Numerals.{add-one}
+use Rattle.plan.specs.Answers.{column, zeros, refused, First, PlanAt, Padded, ZeroFrom, Least, no-interval, bad-walk, denied, given, none, least}
+use Rattle.cases.specs.Tests.{both, upTo, lexThen, count, boundOf, sheetTest, meetsTest, planTest, noPlanTest, firstTest, badTest, firstWalkTest}
+use Rattle.cases.specs.Lists.{up-at}
+use Rattle.cases.specs.PlanTest.{sheet-is, meets-is, plan-is, no-plan-is, first-is}
+use Rattle.cases.specs.WalkTest.{bad-is, first-walk-is}
+
+-- 24 numbers: those of xs, and 0 past them
+abbrev pub padded : List ℕ → List ℕ
+padded xs = xs ++ replicate (24 - length xs) 0
+
+-- a claim of 01, with what the test needs to see it: starts that meet the dependences, or walks
+pub data Claim : Type 0 where
+  refuses-interval : Sheet → ℕ → Claim
+  refuses-walk : Sheet → ℕ → List ℕ → Claim
+  refuses-plan : Sheet → ℕ → List ℕ → Claim
+  gives : Sheet → ℕ → List ℕ → List ℕ → Claim
+  least-is : Sheet → ℕ → List ℕ → List ℕ → Claim
+  least-refused : Sheet → Claim
+  recurrence-is : Sheet → ℕ → List ℕ → List ℕ → Claim
+  recurrence-refused : Sheet → List ℕ → Claim
+  resource-is : Sheet → ℕ → Claim
+  pair-out : ℕ → ℕ → Claim
+  pair-in : ℕ → ℕ → Claim
+
+-- the pairs of n operations
+abbrev pub pairs : ℕ → ℕ
+pairs n = n * (n - 1) / 2
+
+abbrev pub Says : Claim → Type 0
+Says (refuses-interval s L) = PlanAt s L (refused 4)
+Says (refuses-walk s L ks) = PlanAt s L (record { answer = 5; starts = zeros; instances = zeros; «loop_length» = length ks; «loop_edges» = padded ks })
+Says (refuses-plan s L ts) = PlanAt s L (refused 6)
+Says (gives s L ts us) = PlanAt s L (record { answer = 0; starts = padded ts; instances = padded us; «loop_length» = 0; «loop_edges» = zeros })
+Says (least-is s L ts us) = Least s (record { answer = 0; interval = L })
+Says (least-refused s) = Least s (record { answer = 7; interval = 0 })
+Says (recurrence-is s l ts ks) = dependence.BoundAnswer (graphOf s) (s .cap) 0 l
+Says (recurrence-refused s ks) = dependence.BoundAnswer (graphOf s) (s .cap) 8 0
+Says (resource-is s b) = resourceBound s ≡ b
+Says (pair-out n p) = p < pairs n → ⊥
+Says (pair-in n p) = p < pairs n
+
+-- each interval from 1 below m has p
+abbrev pub intervals : ℕ → (ℕ → Bool) → Bool
+intervals m p = upTo (m - 1) (λ k. p (suc k))
+
+abbrev pub intervalTest : Sheet → ℕ → Bool
+intervalTest s L = both (leb 1 L) (leb L (s .cap))
+
+abbrev pub test : Claim → Bool
+test (refuses-interval s L) = both (sheetTest s) (not (intervalTest s L))
+test (refuses-walk s L ks) = both (sheetTest s) (both (intervalTest s L) (both (leb (length ks) 24) (firstWalkTest (graphOf s) L ks)))
+test (refuses-plan s L ts) = both (sheetTest s) (both (intervalTest s L) (both (meetsTest s L ts) (noPlanTest s L)))
+test (gives s L ts us) = both (sheetTest s) (both (intervalTest s L) (both (eqb (length ts) (s .«op_count»)) (both (eqb (length us) (s .«op_count»)) (firstTest s L ts us))))
+test (least-is s L ts us) = both (sheetTest s) (both (intervalTest s L) (both (planTest s L ts us) (intervals L (noPlanTest s))))
+test (least-refused s) = both (sheetTest s) (intervals (suc (s .cap)) (noPlanTest s))
+test (recurrence-is s l ts ks) = both (sheetTest s) (both (intervalTest s l) (both (meetsTest s l ts) (intervals l (λ L. badTest (graphOf s) L ks))))
+test (recurrence-refused s ks) = both (sheetTest s) (intervals (suc (s .cap)) (λ L. badTest (graphOf s) L ks))
+test (resource-is s b) = eqb (boundOf s) b
+test (pair-out n p) = not (ltb p (pairs n))
+test (pair-in n p) = ltb p (pairs n)
+
+-- ---- laws
+
+padded-at : (xs : List ℕ) (m i : ℕ) → column (xs ++ replicate m 0) i ≡ column xs i
+padded-at [] m i = all-zero m i
+padded-at (x ∷ xs) m zero = refl
+padded-at (x ∷ xs) m (suc i) = padded-at xs m i
+
+padded-length : (xs : List ℕ) → length xs ≤ 24 → length (padded xs) ≡ 24
+padded-length xs h = length-append xs (replicate (24 - length xs) 0) ∙ whole
+  where
+    whole : length xs + length (replicate {A = ℕ} (24 - length xs) 0) ≡ 24
+    whole = omega (arith, length-replicate {A = ℕ} (24 - length xs) 0)
+
+padded-column : (xs : List ℕ) → column xs ≡ column (padded xs)
+padded-column xs = λ k i. sym (padded-at xs (24 - length xs) i) k
+
+padded-zero : (n : ℕ) (xs : List ℕ) → length xs ≡ n → n ≤ 24 → ZeroFrom n (padded xs)
+padded-zero n xs e h = record {
+  whole = padded-length xs (omega arith);
+  rest = λ i l. padded-at xs (24 - length xs) i ∙ List·getD-eq-default xs 0 (omega arith);
+}
+
+interval-is : (s : Sheet) (L : ℕ) → intervalTest s L ≡ true → Interval s L
+interval-is s L e = let q = both-true (leb 1 L) (leb L (s .cap)) e in record { low = leb-true 1 L (q .0); high = leb-true L (s .cap) (q .1) }
+
+interval-show : (s : Sheet) (L : ℕ) → Interval s L → intervalTest s L ≡ true
+interval-show s L i = both-show (leb 1 L) (leb L (s .cap)) (le-leb 1 L (i .low)) (le-leb L (s .cap) (i .high))
+
+below : (m : ℕ) (p : ℕ → Bool) → intervals m p ≡ true → (L : ℕ) → 1 ≤ L → L < m → p L ≡ true
+below m p e zero l h = absurd (omega arith)
+below m p e (suc L) l h = up-at (m - 1) (λ k. p (suc k)) e L (omega arith)
+
+count-is : (n : ℕ) (f : ℕ → Bool) → tally n f ≡ count n f
+unfolding count
+count-is zero f = tally-none f
+count-is (suc n) f = rw (← add-one n) (tally-more n f) ∙ ap (λ (c : ℕ). c + bit (f n)) (count-is n f)
+
+bound-same : (s : Sheet) → resourceBound s ≡ boundOf s
+unfolding resourceBound
+bound-same s = λ k. greatest (s .«type_count») (λ r. shareOf (count-is (s .«op_count») (λ i. eqb (opAt s i .resource) r) k) (typeAt s r .instances))
+
+-- the tests show the claims
+pub shown : (c : Claim) → test c ≡ true → Says c
+shown (refuses-interval s L) e =
+    let a = both-true (sheetTest s) (not (intervalTest s L)) e in
+    no-interval (sheet-is s (a .0)) (λ i. true-false (sym (interval-show s L i) ∙ not-true (intervalTest s L) (a .1)))
+shown (refuses-walk s L ks) e =
+    let a = both-true (sheetTest s) (both (intervalTest s L) (both (leb (length ks) 24) (firstWalkTest (graphOf s) L ks))) e in
+    let b = both-true (intervalTest s L) (both (leb (length ks) 24) (firstWalkTest (graphOf s) L ks)) (a .1) in
+    let c = both-true (leb (length ks) 24) (firstWalkTest (graphOf s) L ks) (b .1) in
+    let ok = sheet-is s (a .0) in
+    let iv = interval-is s L (b .0) in
+    let w = first-walk-is (graphOf s) L ks (c .1) in
+    bad-walk ok iv w (record { whole = padded-length ks (leb-true (length ks) 24 (c .0)); front = padded-at ks (24 - length ks) })
+    (infeasible-exactly (graphOf s) L (graph-in-range ok) (interval-in-range ok iv) .no-starts ks (w .bad))
+shown (refuses-plan s L ts) e =
+    let a = both-true (sheetTest s) (both (intervalTest s L) (both (meetsTest s L ts) (noPlanTest s L))) e in
+    let b = both-true (intervalTest s L) (both (meetsTest s L ts) (noPlanTest s L)) (a .1) in
+    let c = both-true (meetsTest s L ts) (noPlanTest s L) (b .1) in
+    let ok = sheet-is s (a .0) in
+    denied ok (interval-is s L (b .0)) (λ i. pos (column ts i)) (meets-is s L ts (c .0)) (no-plan-is s L ok (c .1))
+shown (gives s L ts us) e =
+    let a = both-true (sheetTest s) (both (intervalTest s L) (both (eqb (length ts) (s .«op_count»)) (both (eqb (length us) (s .«op_count»)) (firstTest s L ts us)))) e in
+    let b = both-true (intervalTest s L) (both (eqb (length ts) (s .«op_count»)) (both (eqb (length us) (s .«op_count»)) (firstTest s L ts us))) (a .1) in
+    let c = both-true (eqb (length ts) (s .«op_count»)) (both (eqb (length us) (s .«op_count»)) (firstTest s L ts us)) (b .1) in
+    let d = both-true (eqb (length us) (s .«op_count»)) (firstTest s L ts us) (c .1) in
+    let ok = sheet-is s (a .0) in
+    let lt = eqb-true (length ts) (s .«op_count») (c .0) in
+    let lu = eqb-true (length us) (s .«op_count») (d .0) in
+    let f = subst (λ (x : ℕ → ℕ). First s L x (column (padded us))) (padded-column ts) (subst (λ (x : ℕ → ℕ). First s L (column ts) x) (padded-column us) (first-is s L ts us ok lt lu (d .1))) in
+    given ok (interval-is s L (b .0)) f (padded-zero (s .«op_count») ts lt (ops-most ok)) (padded-zero (s .«op_count») us lu (ops-most ok))
+shown (least-is s L ts us) e =
+    let a = both-true (sheetTest s) (both (intervalTest s L) (both (planTest s L ts us) (intervals L (noPlanTest s)))) e in
+    let b = both-true (intervalTest s L) (both (planTest s L ts us) (intervals L (noPlanTest s))) (a .1) in
+    let c = both-true (planTest s L ts us) (intervals L (noPlanTest s)) (b .1) in
+    let ok = sheet-is s (a .0) in
+    least ok (interval-is s L (b .0)) (column ts) (column us) (plan-is s L ts us (c .0)) (λ L' i t u p. at s L ok (c .1) L' i t u p (decLt L' L))
+  where
+    at : (s : Sheet) (L : ℕ) → InRange s → intervals L (noPlanTest s) ≡ true → (L' : ℕ) → Interval s L' → (t u : ℕ → ℕ) → Plan s L' t u → Dec (L' < L) → L ≤ L'
+    at s L ok e L' i t u p (yes h) = absurd (no-plan-is s L' ok (below L (noPlanTest s) e L' (i .low) h) t u p)
+    at s L ok e L' i t u p (no h) = omega arith
+shown (least-refused s) e =
+    let a = both-true (sheetTest s) (intervals (suc (s .cap)) (noPlanTest s)) e in
+    let ok = sheet-is s (a .0) in
+    none ok (λ L i t u p. no-plan-is s L ok (below (suc (s .cap)) (noPlanTest s) (a .1) L (i .low) (omega (arith, i .high))) t u p)
+shown (recurrence-is s l ts ks) e =
+    let a = both-true (sheetTest s) (both (intervalTest s l) (both (meetsTest s l ts) (intervals l (λ L. badTest (graphOf s) L ks)))) e in
+    let b = both-true (intervalTest s l) (both (meetsTest s l ts) (intervals l (λ L. badTest (graphOf s) L ks))) (a .1) in
+    let c = both-true (meetsTest s l ts) (intervals l (λ L. badTest (graphOf s) L ks)) (b .1) in
+    let ok = sheet-is s (a .0) in
+    let iv = interval-is s l (b .0) in
+    dependence.bound-found refl (graph-in-range ok) (cap-in-range ok) (iv .low) (iv .high)
+    (λ p w. infeasible-exactly (graphOf s) l (graph-in-range ok) (interval-in-range ok iv) .no-starts p w (λ i. pos (column ts i)) (meets-is s l ts (c .0)))
+    (λ i h k. (ks, bad-is (graphOf s) i ks (below l (λ L. badTest (graphOf s) L ks) (c .1) i h k)))
+shown (recurrence-refused s ks) e =
+    let a = both-true (sheetTest s) (intervals (suc (s .cap)) (λ L. badTest (graphOf s) L ks)) e in
+    let ok = sheet-is s (a .0) in
+    dependence.bound-eight refl refl (graph-in-range ok) (cap-in-range ok) (λ i h k. (ks, bad-is (graphOf s) i ks (below (suc (s .cap)) (λ L. badTest (graphOf s) L ks) (a .1) i h (omega arith))))
+shown (resource-is s b) e = bound-same s ∙ eqb-true (boundOf s) b e
+shown (pair-out n p) e = λ h. true-false (sym (lt-ltb p (pairs n) h) ∙ not-true (ltb p (pairs n)) e)
+shown (pair-in n p) e = ltb-true p (pairs n) e

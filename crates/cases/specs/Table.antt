@@ -1,0 +1,112 @@
+-- The starred cases of document 01: one table of claims about the rules.
+use mathlib.Core.List.{List, [], _∷_}
+use Prim.Native.Nat.{ℕ}
+use lib.IntN.{ℤ, pos, negsuc}
+use Rattle.dependence.specs.declared.Edge.{Edge}
+use Rattle.sheet.specs.declared.Sheet.{Sheet}
+use Rattle.sheet.specs.declared.Operation.{Operation}
+use Rattle.sheet.specs.declared.ResourceType.{ResourceType}
+use Rattle.cases.specs.Claims.{Claim, refuses-interval, refuses-walk, refuses-plan, gives, least-is, least-refused, recurrence-is, recurrence-refused, resource-is, pair-out, pair-in}
+
+abbrev type : ℕ → ℕ → ResourceType
+type a d = record { instances = a; latency = d }
+
+abbrev op : ℕ → Operation
+op r = record { resource = r }
+
+abbrev edge : ℕ → ℕ → ℤ → ℕ → Edge
+edge i j d b = record { from = i; to = j; delay = d; distance = b }
+
+-- case A, and B with another horizon
+abbrev ring : ℕ → Sheet
+ring horizon = record {
+  horizon = horizon;
+  cap = 4;
+  «type_count» = 2;
+  types = type 1 1 ∷ type 0 1 ∷ [];
+  «op_count» = 3;
+  ops = op 0 ∷ op 1 ∷ op 0 ∷ [];
+  «edge_count» = 3;
+  edges = edge 0 1 (pos 0) 0 ∷ edge 1 2 (pos 0) 0 ∷ edge 2 0 (pos 0) 2 ∷ [];
+}
+
+-- two operations of one type, held exactly four clocks apart
+abbrev apart : Sheet
+apart = record {
+  horizon = 5;
+  cap = 5;
+  «type_count» = 1;
+  types = type 1 1 ∷ [];
+  «op_count» = 2;
+  ops = op 0 ∷ op 0 ∷ [];
+  «edge_count» = 2;
+  edges = edge 0 1 (pos 3) 0 ∷ edge 1 0 (negsuc 4) 0 ∷ [];
+}
+
+-- one operation of latency d that depends on itself
+abbrev itself : ℕ → Sheet
+itself d = record {
+  horizon = 4;
+  cap = 3;
+  «type_count» = 1;
+  types = type 1 d ∷ [];
+  «op_count» = 1;
+  ops = op 0 ∷ [];
+  «edge_count» = 1;
+  edges = edge 0 0 (pos 0) 0 ∷ [];
+}
+
+-- three operations of a type with two instances
+abbrev three : ℕ → Sheet
+three horizon = record {
+  horizon = horizon;
+  cap = 2;
+  «type_count» = 1;
+  types = type 2 1 ∷ [];
+  «op_count» = 3;
+  ops = op 0 ∷ op 0 ∷ op 0 ∷ [];
+  «edge_count» = 0;
+  edges = [];
+}
+
+-- one operation of latency 2 in a horizon of 1
+abbrev alone : Sheet
+alone = record {
+  horizon = 1;
+  cap = 3;
+  «type_count» = 1;
+  types = type 1 2 ∷ [];
+  «op_count» = 1;
+  ops = op 0 ∷ [];
+  «edge_count» = 0;
+  edges = [];
+}
+
+abbrev pub table : List Claim
+table =
+    recurrence-is (ring 3) 2 (0 ∷ 1 ∷ 2 ∷ []) (0 ∷ 1 ∷ 2 ∷ []) ∷
+    resource-is (ring 3) 2 ∷
+    least-is (ring 3) 3 (0 ∷ 1 ∷ 2 ∷ []) (0 ∷ 0 ∷ 0 ∷ []) ∷
+    refuses-walk (ring 3) 1 (0 ∷ 1 ∷ 2 ∷ []) ∷
+    refuses-plan (ring 3) 2 (0 ∷ 1 ∷ 2 ∷ []) ∷
+    gives (ring 3) 3 (0 ∷ 1 ∷ 2 ∷ []) (0 ∷ 0 ∷ 0 ∷ []) ∷
+    gives (ring 4) 2 (0 ∷ 1 ∷ 3 ∷ []) (0 ∷ 0 ∷ 0 ∷ []) ∷
+    refuses-plan apart 1 (0 ∷ 4 ∷ []) ∷
+    refuses-plan apart 2 (0 ∷ 4 ∷ []) ∷
+    gives apart 3 (0 ∷ 4 ∷ []) (0 ∷ 0 ∷ []) ∷
+    refuses-plan apart 4 (0 ∷ 4 ∷ []) ∷
+    gives apart 5 (0 ∷ 4 ∷ []) (0 ∷ 0 ∷ []) ∷
+    refuses-walk (itself 1) 1 (0 ∷ []) ∷
+    refuses-walk (itself 1) 2 (0 ∷ []) ∷
+    refuses-walk (itself 1) 3 (0 ∷ []) ∷
+    least-refused (itself 1) ∷
+    recurrence-refused (itself 1) (0 ∷ []) ∷
+    gives (itself 0) 1 (0 ∷ []) (0 ∷ []) ∷
+    refuses-plan (three 1) 1 (0 ∷ 0 ∷ 0 ∷ []) ∷
+    gives (three 2) 2 (0 ∷ 0 ∷ 1 ∷ []) (0 ∷ 1 ∷ 0 ∷ []) ∷
+    gives alone 1 (0 ∷ []) (0 ∷ []) ∷
+    refuses-interval (ring 3) 0 ∷
+    refuses-interval (ring 3) 5 ∷
+    pair-out 1 0 ∷
+    pair-in 24 275 ∷
+    []
