@@ -1,31 +1,17 @@
--- Laws of a table's entries: past its end nothing is placed, and an entry is allowed by what its test finds. And tests of two numbers.
+-- Laws of a table's entries: past its end nothing is placed, and an entry is allowed by what its test finds.
 -- Assumes nothing.
 use mathlib.Core.Path.{_≡_, refl, sym, subst, _∙_}
-use mathlib.Core.Bool.{Bool, true, false}
-use Prim.Native.Nat.{ℕ, _<_, _≤_, _%_}
+use mathlib.Core.Bool.{true, false}
+use Prim.Native.Nat.{ℕ, _<_, _≤_}
 use native.Mathlib.Decide.{decLt}
-use native.Mathlib.Nat.{mod-zero}
 use native.Mathlib.Omega.{arith}
-use lib.Dec.{ltb, eqb}
 use lib.ListN.{length, List·getD-eq-default}
-use borrow.Author.Tests.{ltb-true, ltb-false, eqb-true, eqb-false}
 use Rattle.laws.specs.Z.{true-false}
-use Rattle.dependence.specs.Graph.{Says}
 use Rattle.sheet.specs.declared.Sheet.{Sheet}
 use Rattle.plan.specs.Rules.{InstanceAllowed}
 use Rattle.placing.specs.declared.Placement.{Placement}
 use Rattle.placing.specs.declared.Table.{Table}
 use Rattle.placing.specs.Table.{nothing, placementAt, Placed, EntryAllowed}
-
-pub lt-says : (a b : ℕ) → Says (a < b) (ltb a b)
-lt-says a b = record { yes = ltb-true a b; no = λ e h. let l = ltb-false a b e in omega arith }
-
-pub eq-says : (a b : ℕ) → Says (a ≡ b) (eqb a b)
-eq-says a b = record { yes = eqb-true a b; no = eqb-false a b }
-
--- a remainder by 0 is the number itself
-pub whole-slot : (interval start : ℕ) → interval ≡ 0 → start ≡ start % interval
-whole-slot interval start e = sym (subst (λ (n : ℕ). start % n ≡ start) (sym e) (mod-zero start))
 
 -- ---- past the end
 

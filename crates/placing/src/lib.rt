@@ -2,8 +2,6 @@
 ghost use Prim.Native.Nat.{ℕ, _≤_, _<_};
 ghost use mathlib.Core.Path.{_≡_};
 ghost use Rattle.dependence.specs.Graph.{Says};
-ghost use Rattle.sheet.specs.Sheet.{typeOf};
-ghost use Rattle.plan.specs.Rules.{Rivals, Overlap, slot};
 ghost use Rattle.placing.specs.Table.{placementAt, Placed, EntryAllowed, Taken, Untaken, Apart, Consistent, Target};
 ghost use Rattle.placing.specs.Answers.{NewAt, PlaceAt, whole};
 ghost use Rattle.placing.specs.Room.{Room, FirstUntaken};
@@ -62,53 +60,6 @@ pub fn new_table(sheet: Sheet, interval: usize) -> NewTable
     NewTable { answer: 0, table }
 }
 
-// ---- the rules for two operations
-
-// The instances of an operation's type; 0 is unlimited.
-fn instances_of(sheet: Sheet, op: usize) -> usize
-    requires { ⌜ op < 24 ⌝ }
-    ensures { λ r. ⌜ r ≡ typeOf sheet op .instances ⌝ }
-{
-    let operation = sheet.ops[op];
-    let resource = operation.resource;
-    if MOST_TYPES <= resource {
-        return 0;
-    }
-    let found = sheet.types[resource];
-    found.instances
-}
-
-fn rivals(sheet: Sheet, i: usize, j: usize) -> bool
-    requires { ⌜ (i < 24) × (j < 24) ⌝ }
-    ensures { λ r. ⌜ Says (Rivals sheet i j) r ⌝ }
-{
-    if i == j {
-        return false;
-    }
-    let a = sheet.ops[i];
-    let b = sheet.ops[j];
-    if a.resource != b.resource {
-        return false;
-    }
-    0 < instances_of(sheet, i)
-}
-
-fn slot_of(interval: usize, start: usize) -> usize
-    ensures { λ r. ⌜ r ≡ slot interval start ⌝ }
-{
-    if interval == 0 {
-        return start;
-    }
-    start % interval
-}
-
-// Whether operation i at the start t and operation j at the start u may not share an instance.
-fn overlap(sheet: Sheet, interval: usize, i: usize, t: usize, j: usize, u: usize) -> bool
-    ensures { λ r. ⌜ Says (Overlap sheet interval i t j u) r ⌝ }
-{
-    slot_of(interval, t) == slot_of(interval, u)
-}
-
 // ---- what is taken
 
 // Whether operation j takes the instance from operation op at this start.
@@ -131,10 +82,10 @@ fn takes(
     if p.instance != instance {
         return false;
     }
-    if !overlap(sheet, interval, op, start, j, p.start) {
+    if !rules::overlap(sheet, interval, op, start, j, p.start) {
         return false;
     }
-    rivals(sheet, op, j)
+    rules::rivals(sheet, op, j)
 }
 
 // Whether no operation takes the instance from operation op at this start.
@@ -164,7 +115,7 @@ fn room(sheet: Sheet, op: usize) -> usize
     requires { ⌜ op < 24 ⌝ }
     ensures { λ r. ⌜ Room sheet op r ⌝ }
 {
-    let limit = instances_of(sheet, op);
+    let limit = rules::instances_of(sheet, op);
     if limit == 0 {
         return 1;
     }

@@ -1,9 +1,9 @@
--- `placing::slot_of` meets its contract: a remainder by 0 is the number itself.
+-- `rules::slot_of` meets its contract: a remainder by 0 is the number itself.
 -- Assumes nothing.
-use Rattle.placing.specs.Entries.{whole-slot}
+use Rattle.rules.specs.Tests.{whole-slot}
 use borrow.Author.Needs.{needs}
-use Rattle.placing.proofs.slot_of.Statement.{statement}
-use Rattle.placing.proofs.slot_of.Tie as tie
+use Rattle.rules.proofs.slot_of.Statement.{statement}
+use Rattle.rules.proofs.slot_of.Tie as tie
 
 returns : tie.Need-returns
 returns c = whole-slot _ _ (c .if1 .taken)

@@ -1,11 +1,11 @@
--- `placing::overlap` meets its contract: one slot.
+-- `rules::overlap` meets its contract: one slot.
 -- Assumes nothing.
 use mathlib.Core.Path.{sym, _∙_}
 use Rattle.sheet.specs.Tests.{last}
-use Rattle.placing.specs.Entries.{eq-says}
+use Rattle.rules.specs.Tests.{eq-says}
 use borrow.Author.Needs.{needs}
-use Rattle.placing.proofs.overlap.Statement.{statement}
-use Rattle.placing.proofs.overlap.Tie as tie
+use Rattle.rules.proofs.overlap.Statement.{statement}
+use Rattle.rules.proofs.overlap.Tie as tie
 
 slot-of-requires : tie.Need-slot-of-requires
 slot-of-requires c κs = search needs

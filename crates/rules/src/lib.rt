@@ -1,0 +1,59 @@
+// Tests of a plan's rules for one and for two operations: instances, rivals, slots. Any operation number may be asked about.
+ghost use mathlib.Core.Path.{_≡_};
+ghost use Rattle.dependence.specs.Graph.{Says};
+ghost use Rattle.sheet.specs.Sheet.{opAt, typeOf};
+ghost use Rattle.plan.specs.Rules.{Rivals, Overlap, slot};
+use sheet::{Sheet, MOST_OPERATIONS, MOST_TYPES};
+
+// The type of an operation; past the array it is 0.
+pub fn resource_of(sheet: Sheet, op: usize) -> usize
+    ensures { λ r. ⌜ r ≡ opAt sheet op .resource ⌝ }
+{
+    if MOST_OPERATIONS <= op {
+        return 0;
+    }
+    let operation = sheet.ops[op];
+    operation.resource
+}
+
+// The instances of an operation's type; 0 is unlimited.
+pub fn instances_of(sheet: Sheet, op: usize) -> usize
+    ensures { λ r. ⌜ r ≡ typeOf sheet op .instances ⌝ }
+{
+    let resource = resource_of(sheet, op);
+    if MOST_TYPES <= resource {
+        return 0;
+    }
+    let found = sheet.types[resource];
+    found.instances
+}
+
+// Whether two operations are rivals: different, and of one limited type.
+pub fn rivals(sheet: Sheet, i: usize, j: usize) -> bool
+    ensures { λ r. ⌜ Says (Rivals sheet i j) r ⌝ }
+{
+    if i == j {
+        return false;
+    }
+    if resource_of(sheet, i) != resource_of(sheet, j) {
+        return false;
+    }
+    0 < instances_of(sheet, i)
+}
+
+// The slot of a start: its remainder by the interval. There are no slots at interval 0, where the remainder is the start itself.
+pub fn slot_of(interval: usize, start: usize) -> usize
+    ensures { λ r. ⌜ r ≡ slot interval start ⌝ }
+{
+    if interval == 0 {
+        return start;
+    }
+    start % interval
+}
+
+// Whether operation i at the start t and operation j at the start u may not share an instance.
+pub fn overlap(sheet: Sheet, interval: usize, i: usize, t: usize, j: usize, u: usize) -> bool
+    ensures { λ r. ⌜ Says (Overlap sheet interval i t j u) r ⌝ }
+{
+    slot_of(interval, t) == slot_of(interval, u)
+}
