@@ -4,7 +4,7 @@ use mathlib.Core.Path.{_≡_}
 use mathlib.Core.Bool.{Bool, true, false}
 use mathlib.Core.Logic.{_⊎_, _≢_}
 use mathlib.Core.List.{List, []}
-use Prim.Native.Nat.{ℕ, _%_, _≤_, _<_}
+use Prim.Native.Nat.{ℕ, _%_, _≤_, _<_, _+_}
 use lib.ListN.{getD}
 
 -- whether start t is allowed by a row
@@ -26,7 +26,7 @@ pub record In (n : ℕ) (ok : List (List Bool)) (t : ℕ → ℕ) : Type 0 where
 pub record Part (r q : List Bool) : Type 0 where
   pub part : (t : ℕ) → t < 128 → has r t ≡ true → has q t ≡ true
 
--- each start that the table a allows is allowed by the table b
+-- each start that the domain a allows is allowed by the domain b
 pub record Within (n : ℕ) (a b : List (List Bool)) : Type 0 where
   pub row : (i : ℕ) → i < n → Part (rowOf a i) (rowOf b i)
 
@@ -45,7 +45,7 @@ pub record Solved (Plan : (ℕ → ℕ) → Type 0) (n : ℕ) (ok : List (List B
 pub record Before (n : ℕ) (s t : ℕ → ℕ) : Type 0 where
   pub case : ((v : ℕ) → v < n → s v ≡ t v) ⊎ ((k : ℕ) × (k < n) × (s k < t k) × ((v : ℕ) → v < k → s v ≡ t v))
 
--- the first plan in the table, or that there is none
+-- the first plan in the domain, or that there is none
 pub record FirstIn (Plan : (ℕ → ℕ) → Type 0) (n : ℕ) (ok : List (List Bool)) (found : Bool) (x : List ℕ) : Type 0 where
   pub inside : found ≡ true → In n ok (val x)
   pub plan : found ≡ true → Plan (val x)
@@ -65,6 +65,11 @@ pub record InClass (b : Bool) (t s m : ℕ) (r : Bool) : Type 0 where
 pub record OffClass (b : Bool) (t s m : ℕ) (r : Bool) : Type 0 where
   pub yes : r ≡ true → (b ≡ true) × (t % m ≢ s)
   pub back : b ≡ true → t % m ≢ s → r ≡ true
+
+-- the class of the start after one of class s
+pub record NextClass (s m r : ℕ) : Type 0 where
+  pub within : r < m
+  pub next : (t : ℕ) → t % m ≡ s → (t + 1) % m ≡ r
 
 -- the starts of q in the class s modulo m
 pub record OnlyClass (q : List Bool) (s m : ℕ) (r : List Bool) : Type 0 where

@@ -1,7 +1,7 @@
--- The first plan in a table, by lowering one operation's start after the other; for any rule `Plan` on vectors of starts. Assumes nothing.
+-- The first plan in a domain, by lowering one operation's start after the other; for any rule `Plan` on vectors of starts. Assumes nothing.
 use mathlib.Core.Path.{_≡_, sym, subst, _∙_}
 use mathlib.Core.Bool.{Bool, true, false}
-use mathlib.Core.Logic.{_⊎_, inl, inr, ⊎-elim}
+use mathlib.Core.Logic.{_⊎_, inl, inr, ⊎-elim, _≢_}
 use mathlib.Core.List.{List, []}
 use Prim.Native.Nat.{ℕ, _+_, _≤_, _<_}
 use native.Mathlib.Omega.{arith}
@@ -10,7 +10,7 @@ use lib.ListN.{set, length}
 use lib.Seq.{getD-set-same}
 use Rattle.laws.specs.Z.{true-false}
 use Rattle.laws.specs.Store.{store}
-use Rattle.domain.specs.Domain.{has, rowOf, val, In, Part, Within, Solved, Below, Only, FirstIn}
+use Rattle.domain.specs.Domain.{has, rowOf, val, In, Part, Within, Solved, Below, Only, FirstIn, Keeps, Least}
 use Rattle.domain.specs.Split.{within-self, within-trans, within-set, in-set, in-wider}
 
 pub record Good (Plan : (ℕ → ℕ) → Type 0) (n : ℕ) (d : List (List Bool)) (x : List ℕ) : Type 0 where
@@ -28,6 +28,24 @@ pub record Lead (Plan : (ℕ → ℕ) → Type 0) (n : ℕ) (ok d : List (List B
   pub within : Within n d ok
   pub pinned : (v : ℕ) → v < i → (s : ℕ) → s < 128 → has (rowOf d v) s ≡ true → s ≡ val x v
   pub rest : (t : ℕ → ℕ) → Plan t → In n ok t → (In n d t × ((v : ℕ) → v < i → val x v ≡ t v)) ⊎ ((k : ℕ) × (k < i) × (val x k < t k) × ((v : ℕ) → v < k → val x v ≡ t v))
+
+-- s has the smaller start at the first of n operations where they differ
+abbrev pub Sooner : ℕ → (ℕ → ℕ) → (ℕ → ℕ) → Type 0
+Sooner n s t = (k : ℕ) × (k < n) × (s k < t k) × ((v : ℕ) → v < k → s v ≡ t v)
+
+-- d has one start for each of the first i operations, and a plan of ok outside d comes after everything in d
+pub record Ahead (Plan : (ℕ → ℕ) → Type 0) (n : ℕ) (ok d : List (List Bool)) (i : ℕ) : Type 0 where
+  pub within : Within n d ok
+  pub single : (v : ℕ) → v < i → (s z : ℕ) → s < 128 → z < 128 → has (rowOf d v) s ≡ true → has (rowOf d v) z ≡ true → s ≡ z
+  pub rest : (t : ℕ → ℕ) → Plan t → In n ok t → In n d t ⊎ ((u : ℕ → ℕ) → In n d u → Sooner n u t)
+
+-- the first plan, or no answer
+pub record Tried (Plan : (ℕ → ℕ) → Type 0) (n : ℕ) (ok : List (List Bool)) (found : Bool) (x : List ℕ) : Type 0 where
+  pub first : found ≡ true → FirstIn Plan n ok true x
+
+-- a plan in d, or no answer
+pub record Held (Plan : (ℕ → ℕ) → Type 0) (n : ℕ) (d : List (List Bool)) (found : Bool) (x : List ℕ) : Type 0 where
+  pub good : found ≡ true → Good Plan n d x
 
 module _ (Plan : (ℕ → ℕ) → Type 0) (n : ℕ) where
   -- ---- one operation
@@ -100,3 +118,79 @@ module _ (Plan : (ℕ → ℕ) → Type 0) (n : ℕ) where
 
   pub first-none : {ok : List (List Bool)} {f : Bool} {x y : List ℕ} → Solved Plan n ok f x → f ≡ false → FirstIn Plan n ok false y
   first-none s e = record { inside = λ q. true-false (sym q); plan = λ q. true-false (sym q); first = λ q. true-false (sym q); none = λ _. s .none e }
+
+  -- ---- each operation in turn at its least start
+
+  pub ahead-start : {ok d : List (List Bool)} → Keeps Plan n ok d → Ahead Plan n ok d 0
+  ahead-start k = record { within = k .within; single = λ v l. absurd (omega arith); rest = λ t p h. inl (k .kept t p h) }
+
+  pub ahead-keeps : {ok d e : List (List Bool)} {i : ℕ} → i ≤ n → Ahead Plan n ok d i → Keeps Plan n d e → Ahead Plan n ok e i
+  ahead-keeps m h k = record {
+    within = within-trans (k .within) (h .within);
+    single = λ v l s z a b y w. h .single v l s z a b (k .within .row v (omega arith) .part s a y) (k .within .row v (omega arith) .part z b w);
+    rest = λ t p q. ⊎-elim (λ a. inl (k .kept t p a)) (λ f. inr (λ u w. f u (in-wider (k .within) w))) (h .rest t p q);
+  }
+
+  module _ {ok d : List (List Bool)} {i x : ℕ} {r : List Bool} (l : i < length d) (m : i < n) (z : Ahead Plan n ok d i) (low : Least (rowOf d i) x) (small : x < 128) (o : Only x r) where
+    pinned-part : Part r (rowOf d i)
+    pinned-part = record { part = λ t h e. subst (λ (s : ℕ). has (rowOf d i) s ≡ true) (sym (o .other t h e)) (low .here small) }
+
+    narrower : Within n (set d i r) d
+    narrower = within-set l pinned-part
+
+    pub ahead-pin : Ahead Plan n ok (set d i r) (i + 1)
+    ahead-pin = record {
+      within = within-trans narrower (z .within);
+      single = λ v q s w a b. store (λ k row. has row s ≡ true → has row w ≡ true → s ≡ w) d i r [] l (λ y e. o .other s a y ∙ sym (o .other w b e)) v (λ ne. z .single v (omega arith) s w a b);
+      rest = λ t p h. ⊎-elim (λ a. go t a (ℕ-discrete (t i) x)) (λ f. inr (λ u w. f u (in-wider narrower w))) (z .rest t p h);
+    }
+      where
+        -- a start of i that is not the least comes later
+        later : (t : ℕ → ℕ) → In n d t → t i ≢ x → (u : ℕ → ℕ) → In n (set d i r) u → Sooner n u t
+        later t a ne u w = (i, m, smaller (decLt (t i) x), λ v q. z .single v q (u v) (t v) (w .small v (omega arith)) (a .small v (omega arith)) (in-wider narrower w .allowed v (omega arith)) (a .allowed v (omega arith)))
+          where
+            here : u i ≡ x
+            here = o .other (u i) (w .small i m) (subst (λ (q : List Bool). has q (u i) ≡ true) (getD-set-same d i r [] l) (w .allowed i m))
+
+            smaller : Dec (t i < x) → u i < t i
+            smaller (yes q) = absurd (low .before (t i) q (a .allowed i m))
+            smaller (no q) = omega (arith, here)
+
+        go : (t : ℕ → ℕ) → In n d t → Dec (t i ≡ x) → In n (set d i r) t ⊎ ((u : ℕ → ℕ) → In n (set d i r) u → Sooner n u t)
+        go t a (yes e) = inl (in-set r l a (subst (λ (s : ℕ). has r s ≡ true) (sym e) (o .here)))
+        go t a (no ne) = inr (later t a ne)
+
+  pub ahead-done : {ok d : List (List Bool)} {i : ℕ} {x : List ℕ} → Ahead Plan n ok d i → i ≡ n → Good Plan n d x → FirstIn Plan n ok true x
+  ahead-done {x = x} z e g = record {
+    inside = λ _. in-wider (z .within) (g .inside);
+    plan = λ _. g .plan;
+    first = λ _ t p h. record { case = ⊎-elim (λ a. inl (λ v q. z .single v (omega arith) (val x v) (t v) (g .inside .small v q) (a .small v q) (g .inside .allowed v q) (a .allowed v q))) (λ f. inr (f (val x) (g .inside))) (z .rest t p h) };
+    none = λ q. true-false q;
+  }
+
+  -- ---- a narrowed domain
+
+  pub lead-keeps : {ok d e : List (List Bool)} {i : ℕ} {x : List ℕ} → i ≤ n → Lead Plan n ok d i x → Keeps Plan n d e → Lead Plan n ok e i x
+  lead-keeps {x = x} m h k = record {
+    good = record { inside = k .kept (val x) (h .good .plan) (h .good .inside); plan = h .good .plan };
+    within = within-trans (k .within) (h .within);
+    pinned = λ v l s a y. h .pinned v l s a (k .within .row v (omega arith) .part s a y);
+    rest = λ t p q. ⊎-elim (λ a. inl (k .kept t p (a .0), a .1)) (λ b. inr b) (h .rest t p q);
+  }
+
+  -- a plan whose start of i is the least that d allows
+  pub lower-least : {d : List (List Bool)} {i u : ℕ} {x : List ℕ} → i < n → Good Plan n d x → Least (rowOf d i) u → val x i ≡ u → Lowered Plan n d i x
+  lower-least {d} {i} {u} {x} m g z e = record { good = g; least = λ t p h. pick t h (decLt (t i) u) }
+    where
+      pick : (t : ℕ → ℕ) → In n d t → Dec (t i < u) → val x i ≤ t i
+      pick t h (yes q) = absurd (z .before (t i) q (h .allowed i m))
+      pick t h (no q) = omega (arith, e)
+
+  -- the first plan in a narrowed domain is the first in the domain
+  pub first-wider : {b a : List (List Bool)} {f : Bool} {x : List ℕ} → Keeps Plan n b a → FirstIn Plan n a f x → FirstIn Plan n b f x
+  first-wider k s = record {
+    inside = λ y. in-wider (k .within) (s .inside y);
+    plan = s .plan;
+    first = λ y t p h. s .first y t p (k .kept t p h);
+    none = λ e t p h. s .none e t p (k .kept t p h);
+  }

@@ -1,14 +1,16 @@
 -- Laws of the row functions. Assumes nothing.
-use mathlib.Core.Path.{_≡_, sym, _∙_}
+use mathlib.Core.Path.{_≡_, sym, _∙_, ap}
 use mathlib.Core.Bool.{Bool, true, false}
 use mathlib.Core.Logic.{_≢_}
 use mathlib.Core.List.{List}
-use Prim.Native.Nat.{ℕ, _<_}
+use Prim.Native.Nat.{ℕ, _<_, _+_, _%_}
+use native.Mathlib.Omega.{arith}
+use native.Mathlib.Nat.{mod-add-mod, mod-eq-of-lt, mod-self}
 use native.Mathlib.Decide.{ℕ-discrete}
 use lib.ListN.{set, length}
 use lib.Seq.{getD-set-same, getD-set-other}
 use Rattle.laws.specs.Z.{true-false}
-use Rattle.domain.specs.Domain.{has, Only}
+use Rattle.domain.specs.Domain.{has, Only, NextClass}
 
 pub same-class : (a b : ℕ) → (a ≢ b → ⊥) → a ≡ b
 same-class a b h = pick (ℕ-discrete a b)
@@ -23,3 +25,9 @@ only-set l x none h = record { here = getD-set-same l x true false h; other = λ
     pick : (t : ℕ) → t < 128 → has (set l x true) t ≡ true → Dec (t ≡ x) → t ≡ x
     pick t m b (yes e) = e
     pick t m b (no n) = true-false (sym b ∙ getD-set-other l x t true false n ∙ none t m)
+
+pub next-inner : {s m : ℕ} → s + 1 < m → NextClass s m (s + 1)
+next-inner {s} {m} h = record { within = h; next = λ t e. sym (mod-add-mod t m 1) ∙ ap (λ (k : ℕ). (k + 1) % m) e ∙ mod-eq-of-lt h }
+
+pub next-wraps : {s m : ℕ} → s + 1 ≡ m → NextClass s m 0
+next-wraps {s} {m} h = record { within = omega arith; next = λ t e. sym (mod-add-mod t m 1) ∙ ap (λ (k : ℕ). (k + 1) % m) e ∙ ap (λ (k : ℕ). k % m) h ∙ mod-self m }

@@ -17,7 +17,7 @@ use Rattle.domain.specs.Domain.{has, rowOf, val, In, Part, Within, Keeps
 pub count : List Bool → ℕ
 count q = total 128 (λ t. bit (has q t))
 
--- the starts that a table allows
+-- the starts that a domain allows
 pub size : ℕ → List (List Bool) → ℕ
 size n ok = total n (λ i. count (rowOf ok i))
 
@@ -69,11 +69,11 @@ module _ (Plan : (ℕ → ℕ) → Type 0) (n : ℕ) where
   pub keeps-trans : {a b c : List (List Bool)} → Keeps Plan n a b → Keeps Plan n b c → Keeps Plan n a c
   keeps-trans x y = record { within = within-trans (y .within) (x .within); kept = λ t p h. y .kept t p (x .kept t p h) }
 
-  -- one row made smaller, by a rule that loses no plan's start
-  pub keeps-set : {d : List (List Bool)} {i : ℕ} {r : List Bool} → i < length d → Part r (rowOf d i) → ((t : ℕ → ℕ) → Plan t → In n d t → has r (t i) ≡ true) → Keeps Plan n d (set d i r)
-  keeps-set {r = r} l p k = record { within = within-set l p; kept = λ t pl h. in-set r l h (k t pl h) }
+  -- one row more made smaller, by a rule that loses no plan's start
+  pub keeps-next : {a b : List (List Bool)} {i : ℕ} {r : List Bool} → i < length b → Keeps Plan n a b → Part r (rowOf b i) → ((t : ℕ → ℕ) → Plan t → In n a t → In n b t → has r (t i) ≡ true) → Keeps Plan n a (set b i r)
+  keeps-next {r = r} l k p f = record { within = within-trans (within-set l p) (k .within); kept = λ t pl h. let q = k .kept t pl h in in-set r l q (f t pl h q) }
 
-  -- an answer for the narrowed table is one for the table
+  -- an answer for the narrowed domain is one for the domain
   pub solved-wider : {b a : List (List Bool)} {f : Bool} {x : List ℕ} → Keeps Plan n b a → Solved Plan n a f x → Solved Plan n b f x
   solved-wider k s = record { inside = λ y. in-wider (k .within) (s .inside y); plan = s .plan; none = λ e t p h. s .none e t p (k .kept t p h) }
 

@@ -4,7 +4,16 @@
 ghost use mathlib.Core.Path.{_≡_};
 ghost use mathlib.Core.Bool.{true, false};
 ghost use Prim.Native.Nat.{ℕ, _+_, _≤_, _<_};
-ghost use Rattle.domain.specs.Domain.{Under, InClass, OffClass, OnlyClass, WithoutClass, Below, Only, Least, Other};
+ghost use Rattle.domain.specs.Domain.{Under, InClass, OffClass, OnlyClass, WithoutClass, NextClass, Below, Only, Least, Other};
+
+// The class after class s modulo m: of the start after one of class s.
+pub fn next_class(s: usize, m: usize) -> usize
+    requires { ⌜ s < m ⌝ }
+    ensures { λ r. ⌜ NextClass s m r ⌝ }
+{
+    let next = s + 1;
+    if next < m { next } else { 0 }
+}
 
 // The flag b of start t, where the class of t is s.
 fn in_class(b: bool, t: usize, s: usize, m: usize) -> bool

@@ -38,25 +38,25 @@ fn spread(p: Task, ok: [[bool; 128]; 24], i: usize) -> [[bool; 128]; 24]
     d
 }
 
-// One rule: rule 1 from operation i, or the rules on whole types if i is none.
-fn step(p: Task, ok: [[bool; 128]; 24], i: usize) -> [[bool; 128]; 24]
+// One rule: rule 1 from operation i, or rule 2 on the types of the changed rows if i is none.
+fn step(p: Task, ok: [[bool; 128]; 24], i: usize, changed: [bool; 24]) -> [[bool; 128]; 24]
     requires { ⌜ Ready p ⌝ }
     ensures { λ r. ⌜ Keeps (PlanOf p) (p .ops) ok r ⌝ }
 {
     if i < p.ops {
         return spread(p, ok, i);
     }
-    windows::windows(p, ok)
+    windows::windows(p, ok, changed)
 }
 
-// The first operation whose row changed, or n.
-fn first_dirty(dirty: [bool; 24], n: usize) -> usize
+// The first operation that is marked, or n.
+fn first_marked(marks: [bool; 24], n: usize) -> usize
     requires { ⌜ n ≤ 24 ⌝ }
     ensures { λ r. ⌜ r ≤ n ⌝ }
 {
     let mut i: usize = 0;
     while i < n {
-        if dirty[i] {
+        if marks[i] {
             return i;
         }
         i += 1;
@@ -64,78 +64,130 @@ fn first_dirty(dirty: [bool; 24], n: usize) -> usize
     i
 }
 
+fn either(a: bool, b: bool) -> bool {
+    if a { true } else { b }
+}
+
 fn differ(a: [bool; 128], b: [bool; 128]) -> bool {
+    let mut any = false;
     let mut t: usize = 0;
     while t < 128 {
-        if a[t] != b[t] {
-            return true;
-        }
+        any = either(any, a[t] != b[t]);
         t += 1;
+    }
+    any
+}
+
+// Whether the step at operation i, or at none, may have changed the row of k.
+fn reached(near: [bool; 576], i: usize, n: usize, k: usize) -> bool
+    requires { ⌜ (n ≤ 24) × (k < 24) ⌝ }
+{
+    if i < n { near[i * 24 + k] } else { true }
+}
+
+// Whether a row that is worth a look changed from a to b.
+fn altered(look: bool, a: [bool; 128], b: [bool; 128]) -> bool {
+    if look {
+        return differ(a, b);
     }
     false
 }
 
-fn mark(same: bool, was: bool, changed: bool) -> bool {
-    if changed {
-        return true;
-    }
-    if same { false } else { was }
-}
-
-// Which rows are still to be looked at, after the step at i from d to e.
-fn marks(
-    d: [[bool; 128]; 24],
-    e: [[bool; 128]; 24],
-    dirty: [bool; 24],
-    i: usize,
-    n: usize,
-) -> [bool; 24]
+// Which rows the step at i changed from d to e.
+fn changes(near: [bool; 576], d: [[bool; 128]; 24], e: [[bool; 128]; 24], i: usize, n: usize) -> [bool; 24]
     requires { ⌜ n ≤ 24 ⌝ }
 {
-    let mut out = dirty;
+    let mut out = [false; 24];
     let mut k: usize = 0;
     while k < n {
-        out[k] = mark(k == i, dirty[k], differ(d[k], e[k]));
+        out[k] = altered(reached(near, i, n, k), d[k], e[k]);
         k += 1;
     }
     out
 }
 
-// Whether the steps may end: a row has no start, or no rule changed anything.
-fn settled(d: [[bool; 128]; 24], dirty: [bool; 24], i: usize, n: usize) -> bool
+// The mark of a row: it is new, or old and not just dealt with.
+fn mark(done: bool, old: bool, new: bool) -> bool {
+    if new {
+        return true;
+    }
+    if done { false } else { old }
+}
+
+// The rows from which rule 1 is still to be tried, after the step at i.
+fn marks(old: [bool; 24], new: [bool; 24], i: usize) -> [bool; 24] {
+    let mut out = old;
+    let mut k: usize = 0;
+    while k < 24 {
+        out[k] = mark(k == i, old[k], new[k]);
+        k += 1;
+    }
+    out
+}
+
+// The rows that changed since rule 2 was last tried.
+fn since(old: [bool; 24], new: [bool; 24], tried: bool) -> [bool; 24] {
+    let mut out = old;
+    let mut k: usize = 0;
+    while k < 24 {
+        out[k] = mark(tried, old[k], new[k]);
+        k += 1;
+    }
+    out
+}
+
+// Whether a row that changed has no start left.
+fn emptied(d: [[bool; 128]; 24], new: [bool; 24], n: usize) -> bool
     requires { ⌜ n ≤ 24 ⌝ }
 {
     let mut k: usize = 0;
     while k < n {
-        if domain::least(d[k]) == 128 {
-            return true;
+        if new[k] {
+            if domain::least(d[k]) == 128 {
+                return true;
+            }
         }
         k += 1;
+    }
+    false
+}
+
+// Whether the steps may end: a row has no start, or no rule changed anything.
+fn settled(d: [[bool; 128]; 24], new: [bool; 24], i: usize, n: usize) -> bool
+    requires { ⌜ n ≤ 24 ⌝ }
+{
+    if emptied(d, new, n) {
+        return true;
     }
     if i < n {
         return false;
     }
-    first_dirty(dirty, n) == n
+    first_marked(new, n) == n
 }
 
-// A table without starts that no plan has. The bound on the steps is not reached.
+// A domain without starts that no plan has; `first` marks the rows that are new to the rules. The bound on the steps is not reached.
 pub fn narrow(p: Task, ok: [[bool; 128]; 24], first: [bool; 24]) -> [[bool; 128]; 24]
     requires { ⌜ Ready p ⌝ }
     ensures { λ r. ⌜ Keeps (PlanOf p) (p .ops) ok r ⌝ }
 {
     let n = p.ops;
+    let near = p.near;
     let mut d = ok;
     let mut dirty = first;
+    let mut changed = first;
     let mut fuel: usize = 0;
     while fuel < 10000 {
-        let i = first_dirty(dirty, n);
-        let e = step(p, d, i);
-        let f = marks(d, e, dirty, i, n);
+        let i = first_marked(dirty, n);
+        let e = step(p, d, i, changed);
+        let new = changes(near, d, e, i, n);
         d = e;
-        dirty = f;
-        if settled(d, dirty, i, n) {
+        if settled(d, new, i, n) {
             return d;
         }
+        let next = marks(dirty, new, i);
+        dirty = next;
+        let later = since(changed, new, n <= i);
+        changed = later;
         fuel += 1;
     }
     d

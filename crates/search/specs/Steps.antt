@@ -19,7 +19,7 @@ pub record Loose (n : ℕ) (d : List (List Bool)) (x : List ℕ) (r : ℕ) : Typ
   pub here : r < n → (t : ℕ) × (t < 128) × (has (rowOf d r) t ≡ true) × (t % 128 ≢ val x r % 128)
   pub before : (i : ℕ) → i < r → (t : ℕ) → t < 128 → has (rowOf d i) t ≡ true → t % 128 ≡ val x i % 128
 
--- an answer for the table, or an operation to split
+-- an answer for the domain, or an operation to split
 pub record Looked (Plan : (ℕ → ℕ) → Type 0) (n : ℕ) (d : List (List Bool)) (over yes : Bool) (starts : List ℕ) (op modulus : ℕ) : Type 0 where
   pub done : over ≡ true → Solved Plan n d yes starts
   pub split : over ≡ false → Splits n d op modulus

@@ -66,13 +66,17 @@ pub record Fits (n : ℕ) (ty : ℕ → ℕ) (l r s : ℕ) (used : List Bool) (r
   pub uses : (i : ℕ) → i < n → ty i ≡ r → has used (t i % l) ≡ true
   pub reaches : (i : ℕ) → i < n → ty i ≡ r → off l s (t i % l) < val reach i
 
+-- each slot takes at most a operations of type r
+pub record Room (n : ℕ) (ty : ℕ → ℕ) (l a r : ℕ) (t : ℕ → ℕ) : Type 0 where
+  pub room : (s : ℕ) → tally n (held ty t l r s) ≤ a
+
 -- what a search for full windows from slot s answers: no plan, or how far from s each operation of type r is at least
-pub record Barred (p : Task) (r s : ℕ) (used : List Bool) (reach : List ℕ) (fail : Bool) (bar : List ℕ) : Type 0 where
-  pub safe : (t : ℕ → ℕ) → PlanOf p t → Fits (p .ops) (typeOf p) (p .interval) r s used reach t → (fail ≡ false) × ((i : ℕ) → i < p .ops → typeOf p i ≡ r → val bar i ≤ off (p .interval) s (t i % p .interval))
+pub record Barred (n : ℕ) (ty : ℕ → ℕ) (l a r s : ℕ) (used : List Bool) (reach : List ℕ) (fail : Bool) (bar : List ℕ) : Type 0 where
+  pub safe : (t : ℕ → ℕ) → Room n ty l a r t → Fits n ty l r s used reach t → (fail ≡ false) × ((i : ℕ) → i < n → ty i ≡ r → val bar i ≤ off l s (t i % l))
 
 -- the same in the midst of it: the window of w slots takes at most cap operations
-pub record Caps (p : Task) (r s : ℕ) (used : List Bool) (reach : List ℕ) (w cap : ℕ) (bar : List ℕ) : Type 0 where
-  pub caps : (t : ℕ → ℕ) → PlanOf p t → Fits (p .ops) (typeOf p) (p .interval) r s used reach t → (tally (p .ops) (nearW (typeOf p) t (p .interval) r s w) ≤ cap) × ((i : ℕ) → i < p .ops → typeOf p i ≡ r → val bar i ≤ off (p .interval) s (t i % p .interval))
+pub record Caps (n : ℕ) (ty : ℕ → ℕ) (l a r s : ℕ) (used : List Bool) (reach : List ℕ) (w cap : ℕ) (bar : List ℕ) : Type 0 where
+  pub caps : (t : ℕ → ℕ) → Room n ty l a r t → Fits n ty l r s used reach t → (tally n (nearW ty t l r s w) ≤ cap) × ((i : ℕ) → i < n → ty i ≡ r → val bar i ≤ off l s (t i % l))
 
 pub record More (cap a : ℕ) (used : Bool) (r : ℕ) : Type 0 where
   pub yes : used ≡ true → r ≡ cap + a
@@ -82,79 +86,73 @@ pub record More (cap a : ℕ) (used : Bool) (r : ℕ) : Type 0 where
 pub record Raised (n : ℕ) (full : Bool) (bar : List ℕ) (ty : ℕ → ℕ) (reach : List ℕ) (r w : ℕ) (out : List ℕ) : Type 0 where
   pub each : (i : ℕ) → i < n → (val out i ≡ val bar i) ⊎ ((full ≡ true) × (ty i ≡ r) × (w < val reach i) × (val out i ≡ w))
 
-module _ (p : Task) (ok : TaskOk p) (r s : ℕ) (hs : s < p .interval) (limited : 0 < instancesOf p r) (used : List Bool) (reach : List ℕ) where
-  n : ℕ
-  n = p .ops
+module _ (n : ℕ) (ty : ℕ → ℕ) (l a r s : ℕ) (hl : 0 < l) (hs : s < l) (used : List Bool) (reach : List ℕ) where
+  slot-lt : (t : ℕ → ℕ) (i : ℕ) → t i % l < l
+  slot-lt t i = mod-lt (t i) (hl)
 
-  slot-lt : (t : ℕ → ℕ) (i : ℕ) → t i % p .interval < p .interval
-  slot-lt t i = mod-lt (t i) (ok .interval-ok)
-
-  pub caps-start : {bar : List ℕ} → ((i : ℕ) → i < p .ops → val bar i ≡ 0) → Caps p r s used reach 0 0 bar
+  pub caps-start : {bar : List ℕ} → ((i : ℕ) → i < n → val bar i ≡ 0) → Caps n ty l a r s used reach 0 0 bar
   caps-start {bar} z = record { caps = λ t pl f. (none t, λ i l e. omega (arith, z i l)) }
     where
-      none : (t : ℕ → ℕ) → tally (p .ops) (nearW (typeOf p) t (p .interval) r s 0) ≤ 0
-      none t = ⊎-elim (λ w. absurd (let q = both-true (eqb (typeOf p (w .0)) r) (ltb (off (p .interval) s (t (w .0) % p .interval)) 0) (w .2) in let x : off (p .interval) s (t (w .0) % p .interval) < 0 = ltb-true (off (p .interval) s (t (w .0) % p .interval)) 0 (q .1) in omega arith)) (λ e. omega (arith, e)) (tally-some (p .ops) (nearW (typeOf p) t (p .interval) r s 0))
+      none : (t : ℕ → ℕ) → tally n (nearW ty t l r s 0) ≤ 0
+      none t = ⊎-elim (λ w. absurd (let q = both-true (eqb (ty (w .0)) r) (ltb (off l s (t (w .0) % l)) 0) (w .2) in let x : off l s (t (w .0) % l) < 0 = ltb-true (off l s (t (w .0) % l)) 0 (q .1) in omega arith)) (λ e. omega (arith, e)) (tally-some n (nearW ty t l r s 0))
 
   -- one slot more
-  pub caps-next : {w cap cap′ : ℕ} {bar : List ℕ} → w < p .interval → Caps p r s used reach w cap bar → More cap (instancesOf p r) (has used (slotAt (p .interval) s w)) cap′ → Caps p r s used reach (w + 1) cap′ bar
-  caps-next {w} {cap} {cap′} {bar} hw c m = record { caps = λ t pl f. let q = c .caps t pl f in (go t pl f (q .0) (has used (slotAt (p .interval) s w)) refl, q .1) }
+  pub caps-next : {w cap cap′ : ℕ} {bar : List ℕ} → w < l → Caps n ty l a r s used reach w cap bar → More cap a (has used (slotAt l s w)) cap′ → Caps n ty l a r s used reach (w + 1) cap′ bar
+  caps-next {w} {cap} {cap′} {bar} hw c m = record { caps = λ t pl f. let q = c .caps t pl f in (go t pl f (q .0) (has used (slotAt l s w)) refl, q .1) }
     where
-      l : ℕ
-      l = p .interval
-
       -- at the new window an operation is in the old one, or in the new slot
-      at : (t : ℕ → ℕ) (i : ℕ) → nearW (typeOf p) t (p .interval) r s (w + 1) i ≡ true → (nearW (typeOf p) t (p .interval) r s w i ≡ true) ⊎ ((typeOf p i ≡ r) × (t i % p .interval ≡ slotAt (p .interval) s w))
-      at t i e = let q = both-true _ _ e in pick (q .0) (ltb-true _ _ (q .1)) (ℕ-discrete (off (p .interval) s (t i % p .interval)) w)
+      at : (t : ℕ → ℕ) (i : ℕ) → nearW ty t l r s (w + 1) i ≡ true → (nearW ty t l r s w i ≡ true) ⊎ ((ty i ≡ r) × (t i % l ≡ slotAt l s w))
+      at t i e = let q = both-true _ _ e in pick (q .0) (ltb-true _ _ (q .1)) (ℕ-discrete (off l s (t i % l)) w)
         where
-          pick : eqb (typeOf p i) r ≡ true → off (p .interval) s (t i % p .interval) < w + 1 → Dec (off (p .interval) s (t i % p .interval) ≡ w) → (nearW (typeOf p) t (p .interval) r s w i ≡ true) ⊎ ((typeOf p i ≡ r) × (t i % p .interval ≡ slotAt (p .interval) s w))
-          pick a b (yes x) = inr (eqb-true _ _ a, off-slot (p .interval) s (t i % p .interval) w (slot-lt t i) hs hw x)
-          pick a b (no x) = inl (both-show _ _ a (lt-ltb (off (p .interval) s (t i % p .interval)) w (omega arith)))
+          pick : eqb (ty i) r ≡ true → off l s (t i % l) < w + 1 → Dec (off l s (t i % l) ≡ w) → (nearW ty t l r s w i ≡ true) ⊎ ((ty i ≡ r) × (t i % l ≡ slotAt l s w))
+          pick a b (yes x) = inr (eqb-true _ _ a, off-slot l s (t i % l) w (slot-lt t i) hs hw x)
+          pick a b (no x) = inl (both-show _ _ a (lt-ltb (off l s (t i % l)) w (omega arith)))
 
-      go : (t : ℕ → ℕ) → PlanOf p t → Fits (p .ops) (typeOf p) (p .interval) r s used reach t → tally (p .ops) (nearW (typeOf p) t (p .interval) r s w) ≤ cap → (b : Bool) → has used (slotAt (p .interval) s w) ≡ b → tally (p .ops) (nearW (typeOf p) t (p .interval) r s (w + 1)) ≤ cap′
+      go : (t : ℕ → ℕ) → Room n ty l a r t → Fits n ty l r s used reach t → tally n (nearW ty t l r s w) ≤ cap → (b : Bool) → has used (slotAt l s w) ≡ b → tally n (nearW ty t l r s (w + 1)) ≤ cap′
       go t pl f h true e = omega (
         arith,
         m .yes e,
-        pl .room r (slotAt (p .interval) s w) limited,
-        tally-cover (p .ops) (nearW (typeOf p) t (p .interval) r s (w + 1)) (nearW (typeOf p) t (p .interval) r s w) (held (typeOf p) t (p .interval) r (slotAt (p .interval) s w))
+        pl .room (slotAt l s w),
+        tally-cover n (nearW ty t l r s (w + 1)) (nearW ty t l r s w) (held ty t l r (slotAt l s w))
             (λ i q x. ⊎-elim (λ y. inl y) (λ y. inr (both-show _ _ (eq-eqb _ _ (y .0)) (eq-eqb _ _ (y .1)))) (at t i x)),
       )
       go t pl f h false e = omega (
         arith,
         m .no e,
-        tally-le (p .ops) (nearW (typeOf p) t (p .interval) r s (w + 1)) (nearW (typeOf p) t (p .interval) r s w)
+        tally-le n (nearW ty t l r s (w + 1)) (nearW ty t l r s w)
             (λ i q x. ⊎-elim (λ y. y) (λ y. true-false (sym (f .uses i q (y .0)) ∙ ap (has used) (y .1) ∙ e)) (at t i x)),
       )
 
   -- an operation that reaches at most w is in the window
-  inside-near : (w : ℕ) (t : ℕ → ℕ) → Fits (p .ops) (typeOf p) (p .interval) r s used reach t → (i : ℕ) → i < p .ops → insideB (typeOf p) (val reach) r w i ≡ true → nearW (typeOf p) t (p .interval) r s w i ≡ true
-  inside-near w t f i h e = let q = both-true (eqb (typeOf p i) r) (leb (val reach i) w) e in both-show _ _ (q .0) (lt-ltb (off (p .interval) s (t i % p .interval)) w (omega (arith, f .reaches i h (eqb-true _ _ (q .0)), leb-true (val reach i) w (q .1))))
+  inside-near : (w : ℕ) (t : ℕ → ℕ) → Fits n ty l r s used reach t → (i : ℕ) → i < n → insideB ty (val reach) r w i ≡ true → nearW ty t l r s w i ≡ true
+  inside-near w t f i h e = let q = both-true (eqb (ty i) r) (leb (val reach i) w) e in both-show _ _ (q .0) (lt-ltb (off l s (t i % l)) w (omega (arith, f .reaches i h (eqb-true _ _ (q .0)), leb-true (val reach i) w (q .1))))
 
   -- too many operations reach at most w: no plan
-  pub caps-over : {w cap c : ℕ} {bar bar′ : List ℕ} → Caps p r s used reach w cap bar → c ≡ tally (p .ops) (insideB (typeOf p) (val reach) r w) → cap < c → Barred p r s used reach true bar′
-  caps-over {w} {cap} k e h = record { safe = λ t pl f. absurd (omega (arith, k .caps t pl f .0, e, tally-le (p .ops) (insideB (typeOf p) (val reach) r w) (nearW (typeOf p) t (p .interval) r s w) (inside-near w t f))) }
+  pub caps-over : {w cap c : ℕ} {bar bar′ : List ℕ} → Caps n ty l a r s used reach w cap bar → c ≡ tally n (insideB ty (val reach) r w) → cap < c → Barred n ty l a r s used reach true bar′
+  caps-over {w} {cap} k e h = record { safe = λ t pl f. absurd (omega (arith, k .caps t pl f .0, e, tally-le n (insideB ty (val reach) r w) (nearW ty t l r s w) (inside-near w t f))) }
 
   -- as many as the window takes: the others are outside
-  pub caps-full : {w cap c : ℕ} {full : Bool} {bar out : List ℕ} → Caps p r s used reach w cap bar → c ≡ tally (p .ops) (insideB (typeOf p) (val reach) r w) → (full ≡ true → c ≡ cap) → Raised (p .ops) full bar (typeOf p) reach r w out → Caps p r s used reach w cap out
-  caps-full {w} {cap} {c} {full} {bar} {out} k e h u = record { caps = λ t pl f. let q = k .caps t pl f in (q .0, λ i l y. ⊎-elim (λ x. omega (arith, x, q .1 i l y)) (λ x. omega (arith, x .3, outside t pl f i l y (x .0) (x .2) (q .0))) (u .each i l)) }
+  pub caps-full : {w cap c : ℕ} {full : Bool} {bar out : List ℕ} → Caps n ty l a r s used reach w cap bar → c ≡ tally n (insideB ty (val reach) r w) → (full ≡ true → c ≡ cap) → Raised n full bar ty reach r w out → Caps n ty l a r s used reach w cap out
+  caps-full {w} {cap} {c} {full} {bar} {out} k e h u = record { caps = λ t pl f. let q = k .caps t pl f in (q .0, λ i m y. ⊎-elim (λ x. omega (arith, x, q .1 i m y)) (λ x. omega (arith, x .3, outside t pl f i m y (x .0) (x .2) (q .0))) (u .each i m)) }
     where
-      outside : (t : ℕ → ℕ) → PlanOf p t → Fits (p .ops) (typeOf p) (p .interval) r s used reach t → (i : ℕ) → i < p .ops → typeOf p i ≡ r → full ≡ true → w < val reach i → tally (p .ops) (nearW (typeOf p) t (p .interval) r s w) ≤ cap → w ≤ off (p .interval) s (t i % p .interval)
-      outside t pl f i l y g z q = pick (decLt (off (p .interval) s (t i % p .interval)) w)
+      outside : (t : ℕ → ℕ) → Room n ty l a r t → Fits n ty l r s used reach t → (i : ℕ) → i < n → ty i ≡ r → full ≡ true → w < val reach i → tally n (nearW ty t l r s w) ≤ cap → w ≤ off l s (t i % l)
+      outside t pl f i m y g z q = pick (decLt (off l s (t i % l)) w)
         where
-          pick : Dec (off (p .interval) s (t i % p .interval) < w) → w ≤ off (p .interval) s (t i % p .interval)
+          pick : Dec (off l s (t i % l) < w) → w ≤ off l s (t i % l)
           pick (no x) = omega arith
           pick (yes x) = absurd (omega (
             arith,
             q,
             e,
             h g,
-            tally-lt (p .ops) (insideB (typeOf p) (val reach) r w) (nearW (typeOf p) t (p .interval) r s w) i l
-                (λ b. let d = both-true (eqb (typeOf p i) r) (leb (val reach i) w) b in let v : val reach i ≤ w = leb-true (val reach i) w (d .1) in omega arith) (both-show _ _ (eq-eqb _ _ y) (lt-ltb _ _ x)) (inside-near w t f),
+            tally-lt n (insideB ty (val reach) r w) (nearW ty t l r s w) i m
+                (λ b. let d = both-true (eqb (ty i) r) (leb (val reach i) w) b in let v : val reach i ≤ w = leb-true (val reach i) w (d .1) in omega arith) (both-show _ _ (eq-eqb _ _ y) (lt-ltb _ _ x)) (inside-near w t f),
           ))
 
-  pub caps-done : {w cap : ℕ} {bar : List ℕ} → Caps p r s used reach w cap bar → Barred p r s used reach false bar
+  pub caps-done : {w cap : ℕ} {bar : List ℕ} → Caps n ty l a r s used reach w cap bar → Barred n ty l a r s used reach false bar
   caps-done k = record { safe = λ t pl f. (refl, k .caps t pl f .1) }
 
--- ---- slots of a table
+-- ---- slots of a domain
 
 -- the row r has the slot of each start of `row`
 pub record SlotRow (l : ℕ) (row r : List Bool) : Type 0 where
@@ -172,11 +170,11 @@ pub record Either (a b r : Bool) : Type 0 where
   pub two : b ≡ true → r ≡ true
 
 pub record Merged (same : Bool) (u row r : List Bool) : Type 0 where
-  pub old : (b : ℕ) → b < 128 → has u b ≡ true → has r b ≡ true
-  pub new : same ≡ true → (b : ℕ) → b < 128 → has row b ≡ true → has r b ≡ true
+  pub old : (b : ℕ) → b < 64 → has u b ≡ true → has r b ≡ true
+  pub new : same ≡ true → (b : ℕ) → b < 64 → has row b ≡ true → has r b ≡ true
 
 pub record UsedBy (n : ℕ) (ty : ℕ → ℕ) (r : ℕ) (z : List (List Bool)) (used : List Bool) : Type 0 where
-  pub all : (i : ℕ) → i < n → ty i ≡ r → (b : ℕ) → b < 128 → has (rowOf z i) b ≡ true → has used b ≡ true
+  pub all : (i : ℕ) → i < n → ty i ≡ r → (b : ℕ) → b < 64 → has (rowOf z i) b ≡ true → has used b ≡ true
 
 pub record FarRow (l : ℕ) (row : List Bool) (r : ℕ) : Type 0 where
   pub far : (b : ℕ) → b < l → has row b ≡ true → b < r
@@ -190,6 +188,10 @@ pub record StepOne (b : Bool) (l old r : ℕ) : Type 0 where
 
 pub record RaiseOne (full same : Bool) (bar reach w r : ℕ) : Type 0 where
   pub which : (r ≡ bar) ⊎ ((full ≡ true) × (same ≡ true) × (w < reach) × (r ≡ w))
+
+-- whether a row may lose a start is said of operations of the type alone
+pub record Cuts (same r : Bool) : Type 0 where
+  pub only : r ≡ true → same ≡ true
 
 pub record Past (b : Bool) (far bar : ℕ) (r : Bool) : Type 0 where
   pub yes : r ≡ true → b ≡ true
@@ -220,31 +222,31 @@ reach-step l s row old new h c k b hb y = go (has row s) refl
 pub off-zero : (l b : ℕ) → off l 0 b ≡ b
 off-zero l b = rw (le-ltb b 0 (omega arith)) (omega arith)
 
--- a table with no plan may be emptied
+-- a domain with no plan may be emptied
 pub keeps-empty : (Plan : (ℕ → ℕ) → Type 0) (n : ℕ) {ok : List (List Bool)} (e : List (List Bool)) → ((i : ℕ) → i < n → (t : ℕ) → t < 128 → has (rowOf e i) t ≡ false) → ((t : ℕ → ℕ) → Plan t → In n ok t → ⊥) → Keeps Plan n ok e
 keeps-empty Plan n e z h = record { within = record { row = λ i l. record { part = λ t m y. true-false (sym y ∙ z i l t m) } }; kept = λ t p q. absurd (h t p q) }
 
-module _ (p : Task) (good : TaskOk p) (r s : ℕ) {ok z : List (List Bool)} {used : List Bool} {reach : List ℕ} (a : Slotted (p .ops) (p .interval) (typeOf p) r ok z) (b : UsedBy (p .ops) (typeOf p) r z used) (c : Reach (p .ops) (p .interval) s z reach) where
+module _ (p : Task) (good : TaskOk p) (r s : ℕ) (limited : 0 < instancesOf p r) {ok z : List (List Bool)} {used : List Bool} {reach : List ℕ} (a : Slotted (p .ops) (p .interval) (typeOf p) r ok z) (b : UsedBy (p .ops) (typeOf p) r z used) (c : Reach (p .ops) (p .interval) s z reach) where
   fit : (t : ℕ → ℕ) → In (p .ops) ok t → Fits (p .ops) (typeOf p) (p .interval) r s used reach t
   fit t h = fits-show (typeOf p) (good .interval-ok) (good .interval-max) a b c h
 
-  pub bars-none : {bar : List ℕ} {f : Bool} → Barred p r s used reach f bar → f ≡ true → (t : ℕ → ℕ) → PlanOf p t → In (p .ops) ok t → ⊥
-  bars-none k e t pl h = true-false (sym e ∙ k .safe t pl (fit t h) .0)
+  pub bars-none : {bar : List ℕ} {f : Bool} → Barred (p .ops) (typeOf p) (p .interval) (instancesOf p r) r s used reach f bar → f ≡ true → (t : ℕ → ℕ) → PlanOf p t → In (p .ops) ok t → ⊥
+  bars-none k e t pl h = true-false (sym e ∙ k .safe t (record { room = λ b. pl .room r b limited }) (fit t h) .0)
 
-  pub bars-keep : {bar : List ℕ} {f : Bool} {d out : List (List Bool)} → Barred p r s used reach f bar → Keeps (PlanOf p) (p .ops) ok d → Drained (p .ops) (typeOf p) r s (p .interval) bar d out → Keeps (PlanOf p) (p .ops) ok out
-  bars-keep k q u = record { within = within-trans (u .within) (q .within); kept = λ t pl h. u .stays t (q .kept t pl h) (k .safe t pl (fit t h) .1) }
+  pub bars-keep : {bar : List ℕ} {f : Bool} {d out : List (List Bool)} → Barred (p .ops) (typeOf p) (p .interval) (instancesOf p r) r s used reach f bar → Keeps (PlanOf p) (p .ops) ok d → Drained (p .ops) (typeOf p) r s (p .interval) bar d out → Keeps (PlanOf p) (p .ops) ok out
+  bars-keep k q u = record { within = within-trans (u .within) (q .within); kept = λ t pl h. u .stays t (q .kept t pl h) (k .safe t (record { room = λ b. pl .room r b limited }) (fit t h) .1) }
 
-pub slot-more : (l t : ℕ) (row seen : List Bool) {e : Bool} → t % l < length seen → ((k : ℕ) → k < t → has row k ≡ true → has seen (k % l) ≡ true) → Either (has row t) (has seen (t % l)) e → (k : ℕ) → k < t + 1 → has row k ≡ true → has (set seen (t % l) e) (k % l) ≡ true
-slot-more l t row seen {e} h c x k m y = store (λ j z. j ≡ k % l → z ≡ true) seen (t % l) e false h (λ q. pick q (ℕ-discrete k t)) (k % l) (λ ne q. c k (early ne) y) refl
+pub slot-more : (l t s : ℕ) (row seen : List Bool) {e : Bool} → t % l ≡ s → s < length seen → ((k : ℕ) → k < t → has row k ≡ true → has seen (k % l) ≡ true) → Either (has row t) (has seen s) e → (k : ℕ) → k < t + 1 → has row k ≡ true → has (set seen s e) (k % l) ≡ true
+slot-more l t s row seen {e} at-t h c x k m y = store (λ j z. j ≡ k % l → z ≡ true) seen s e false h (λ q. pick q (ℕ-discrete k t)) (k % l) (λ ne q. c k (early ne) y) refl
   where
-    early : k % l ≢ t % l → k < t
+    early : k % l ≢ s → k < t
     early ne = at (ℕ-discrete k t)
       where
         at : Dec (k ≡ t) → k < t
-        at (yes q) = absurd (ne (ap (λ (j : ℕ). j % l) q))
+        at (yes q) = absurd (ne (ap (λ (j : ℕ). j % l) q ∙ at-t))
         at (no q) = omega arith
 
-    pick : t % l ≡ k % l → Dec (k ≡ t) → e ≡ true
+    pick : s ≡ k % l → Dec (k ≡ t) → e ≡ true
     pick q (yes w) = x .one (sym (ap (has row) w) ∙ y)
     pick q (no w) = x .two (ap (has seen) q ∙ c k (omega arith) y)
 
@@ -259,7 +261,7 @@ far-more row b far r h c x = go (has row b) refl
         at k m q (yes w) = true-false (sym q ∙ ap (has row) w ∙ e)
         at k m q (no w) = omega (arith, x .1 e, c k (omega arith) q)
 
-pub used-more : (n : ℕ) (ty : ℕ → ℕ) (r : ℕ) (z : List (List Bool)) (u out : List Bool) (i : ℕ) → ((k : ℕ) → k < i → ty k ≡ r → (b : ℕ) → b < 128 → has (rowOf z k) b ≡ true → has u b ≡ true) → Merged (eqb (ty i) r) u (rowOf z i) out → (k : ℕ) → k < i + 1 → ty k ≡ r → (b : ℕ) → b < 128 → has (rowOf z k) b ≡ true → has out b ≡ true
+pub used-more : (n : ℕ) (ty : ℕ → ℕ) (r : ℕ) (z : List (List Bool)) (u out : List Bool) (i : ℕ) → ((k : ℕ) → k < i → ty k ≡ r → (b : ℕ) → b < 64 → has (rowOf z k) b ≡ true → has u b ≡ true) → Merged (eqb (ty i) r) u (rowOf z i) out → (k : ℕ) → k < i + 1 → ty k ≡ r → (b : ℕ) → b < 64 → has (rowOf z k) b ≡ true → has out b ≡ true
 used-more n ty r z u out i c m k l e b h y = pick (ℕ-discrete k i)
   where
     pick : Dec (k ≡ i) → has out b ≡ true
@@ -268,6 +270,9 @@ used-more n ty r z u out i c m k l e b h y = pick (ℕ-discrete k i)
 
 pub raised-all : {n : ℕ} {full : Bool} {bar : List ℕ} (ty : ℕ → ℕ) {reach : List ℕ} {r w : ℕ} {out : List ℕ} → ((i : ℕ) → i < n → RaiseOne full (eqb (ty i) r) (val bar i) (val reach i) w (val out i)) → Raised n full bar ty reach r w out
 raised-all ty h = record { each = λ i l. ⊎-elim (λ e. inl e) (λ x. inr (x .0, eqb-true _ _ (x .1), x .2, x .3)) (h i l .which) }
+
+pub trimmed-when : {same cut : Bool} {bar s l : ℕ} {row r : List Bool} → Cuts same cut → Trimmed cut bar s l row r → Trimmed same bar s l row r
+trimmed-when k z = record { was = z .was; stays = λ t h y f. z .stays t h y (λ e. f (k .only e)) }
 
 pub drained-all : {n r s l : ℕ} (ty : ℕ → ℕ) {bar : List ℕ} {d out : List (List Bool)} → ((i : ℕ) → i < n → Trimmed (eqb (ty i) r) (val bar i) s l (rowOf d i) (rowOf out i)) → Drained n ty r s l bar d out
 drained-all {n} {r} {s} {l} ty {bar} {d} {out} h = record {

@@ -1,3 +1,5 @@
+-- `domain::below` keeps the starts below x.
+-- From `under` at each start, by `store-more`.
 use mathlib.Core.Path.{_≡_}
 use mathlib.Core.Bool.{false}
 use Prim.Native.Nat.{ℕ, _≤_, _<_, _-_}
@@ -15,36 +17,28 @@ Inv-loop x row out₀ t₀ out t = (t ≤ 128) × (length out ≡ 128) × ((k : 
 abbrev μ-loop : tie.MeasureT-loop
 μ-loop x row out₀ t₀ out t = 128 - t
 
--- src/lib.rt:64:5
 loop-holds : tie.Need-loop-holds Inv-loop μ-loop
 loop-holds c = (omega arith, search needs, λ k l. absurd (omega arith))
 
--- src/lib.rt:65:24
 array-read-under : tie.Need-array-read-under Inv-loop μ-loop
 array-read-under c = search needs
 
--- src/lib.rt:65:18
 under-requires : tie.Need-under-requires Inv-loop μ-loop
 under-requires c κs = search needs
 
--- src/lib.rt:65:9
 array-write-out : tie.Need-array-write-out Inv-loop μ-loop
 array-write-out c = search needs
 
--- src/lib.rt:66:9
 add-t : tie.Need-add-t Inv-loop μ-loop
 add-t c = search needs
 
--- src/lib.rt:64:5
 loop-less : tie.Need-loop-less Inv-loop μ-loop
 loop-less c = search needs
 
--- src/lib.rt:64:5
 loop-again : tie.Need-loop-again Inv-loop μ-loop
 loop-again c = let s = c .before .before .before in let l = c .before .before .loop in
     (omega arith, simp length-set (l .inv .1), store-more (λ k z. Under (has (s .args .t1) k) k (s .args .x) z) (l .out) (l .t) _ false (omega (arith, l .inv .1)) (c .under .ensures) (l .inv .2))
 
--- src/lib.rt:59:1
 returns : tie.Need-returns Inv-loop μ-loop
 returns c = let q : (k : ℕ) → k < 128 → Under (has (c .before .before .args .t1) k) k (c .before .before .args .x) (has (c .before .loop .out) k) = λ k h. c .before .loop .inv .2 k (omega arith) in
     record { low = λ t h e b. q t h .back b e; high = λ t h e b. let y = q t h .yes b .1 in omega arith; was = record { part = λ t h b. q t h .yes b .0 } }

@@ -1,18 +1,17 @@
+-- `domain::in_class` keeps a flag exactly in class s.
+-- From the test alone.
 use mathlib.Core.Path.{sym}
 use borrow.Author.Needs.{needs}
 use Rattle.laws.specs.Z.{true-false}
 use Rattle.domain.proofs.in_class.Statement.{statement}
 use Rattle.domain.proofs.in_class.Tie as tie
 
--- src/lib.rt:12:8
 rem-if1 : tie.Need-rem-if1
 rem-if1 c = search needs
 
--- src/lib.rt:8:1
 returns : tie.Need-returns
 returns c = search needs
 
--- src/lib.rt:8:1
 returns-2 : tie.Need-returns-2
 returns-2 c = record { yes = λ e. true-false (sym e); back = λ _ e. absurd (c .if1 .left e) }
 

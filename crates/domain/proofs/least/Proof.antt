@@ -1,3 +1,5 @@
+-- `domain::least` gives the least start, or 128.
+-- From a loop that has met no start yet.
 use mathlib.Core.Path.{_≡_, sym, _∙_}
 use mathlib.Core.Bool.{true}
 use Prim.Native.Nat.{ℕ, _≤_, _<_, _-_}
@@ -15,31 +17,24 @@ Inv-loop row t₀ t = (t ≤ 128) × ((k : ℕ) → k < t → has row k ≡ true
 abbrev μ-loop : tie.MeasureT-loop
 μ-loop row t₀ t = 128 - t
 
--- src/lib.rt:79:5
 loop-holds : tie.Need-loop-holds Inv-loop μ-loop
 loop-holds c = search needs
 
--- src/lib.rt:80:12
 array-read-if1 : tie.Need-array-read-if1 Inv-loop μ-loop
 array-read-if1 c = search needs
 
--- src/lib.rt:81:13
 returns : tie.Need-returns Inv-loop μ-loop
 returns c = search needs
 
--- src/lib.rt:83:9
 add-t : tie.Need-add-t Inv-loop μ-loop
 add-t c = search needs
 
--- src/lib.rt:79:5
 loop-less : tie.Need-loop-less Inv-loop μ-loop
 loop-less c = search needs
 
--- src/lib.rt:79:5
 loop-again : tie.Need-loop-again Inv-loop μ-loop
 loop-again c = let l = c .before .before .loop in (omega arith, below-more _ _ (l .inv .1) (λ e. true-false (sym e ∙ c .if1 .left)))
 
--- src/lib.rt:75:1
 returns-2 : tie.Need-returns-2 Inv-loop μ-loop
 returns-2 c = record { within = omega arith; here = λ h. absurd (omega arith); before = λ t h. c .before .loop .inv .1 t (omega arith) }
 

@@ -1,3 +1,5 @@
+-- `domain::only` has the start x alone.
+-- From `only-set`.
 use mathlib.Core.Bool.{false}
 use lib.ListN.{getD-replicate, replicate}
 use borrow.Author.Needs.{needs}
@@ -5,11 +7,9 @@ use Rattle.domain.specs.Rows.{only-set}
 use Rattle.domain.proofs.only.Statement.{statement}
 use Rattle.domain.proofs.only.Tie as tie
 
--- src/lib.rt:70:5
 array-write-out : tie.Need-array-write-out
 array-write-out c = search needs
 
--- src/lib.rt:65:1
 returns : tie.Need-returns
 returns c = only-set (replicate 128 false) (c .args .x) (λ k h. getD-replicate 128 k false false h) (search needs)
 

@@ -1,3 +1,5 @@
+-- `domain::only_class` keeps the starts of class s.
+-- From `in_class` at each start, by `store-more`.
 use mathlib.Core.Path.{_≡_}
 use mathlib.Core.Bool.{false}
 use Prim.Native.Nat.{ℕ, _≤_, _<_, _-_}
@@ -15,36 +17,28 @@ Inv-loop s m row out₀ t₀ out t = (t ≤ 128) × (length out ≡ 128) × ((k 
 abbrev μ-loop : tie.MeasureT-loop
 μ-loop s m row out₀ t₀ out t = 128 - t
 
--- src/lib.rt:30:5
 loop-holds : tie.Need-loop-holds Inv-loop μ-loop
 loop-holds c = (omega arith, search needs, λ k l. absurd (omega arith))
 
--- src/lib.rt:31:27
 array-read-in-class : tie.Need-array-read-in-class Inv-loop μ-loop
 array-read-in-class c = search needs
 
--- src/lib.rt:31:18
 in-class-requires : tie.Need-in-class-requires Inv-loop μ-loop
 in-class-requires c κs = search needs
 
--- src/lib.rt:31:9
 array-write-out : tie.Need-array-write-out Inv-loop μ-loop
 array-write-out c = search needs
 
--- src/lib.rt:32:9
 add-t : tie.Need-add-t Inv-loop μ-loop
 add-t c = search needs
 
--- src/lib.rt:30:5
 loop-less : tie.Need-loop-less Inv-loop μ-loop
 loop-less c = search needs
 
--- src/lib.rt:30:5
 loop-again : tie.Need-loop-again Inv-loop μ-loop
 loop-again c = let s = c .before .before .before in let l = c .before .before .loop in
     (omega arith, simp length-set (l .inv .1), store-more (λ k z. InClass (has (s .args .t1) k) k (s .args .s) (s .args .m) z) (l .out) (l .t) _ false (omega (arith, l .inv .1)) (c .in-class .ensures) (l .inv .2))
 
--- src/lib.rt:24:1
 returns : tie.Need-returns Inv-loop μ-loop
 returns c = let q : (k : ℕ) → k < 128 → InClass (has (c .before .before .args .t1) k) k (c .before .before .args .s) (c .before .before .args .m) (has (c .before .loop .out) k) = λ k h. c .before .loop .inv .2 k (omega arith) in
     record { in-class = λ t h e b. q t h .back b e; of-class = λ t h b. q t h .yes b .1; was = record { part = λ t h b. q t h .yes b .0 } }

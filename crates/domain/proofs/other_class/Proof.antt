@@ -1,3 +1,5 @@
+-- `domain::other_class` says whether a start is of another class than x.
+-- From `off_class` at each start.
 use mathlib.Core.Path.{_≡_, sym, _∙_}
 use mathlib.Core.Bool.{true}
 use mathlib.Core.Logic.{_≢_}
@@ -17,39 +19,30 @@ Inv-loop x m row s t₀ t = (t ≤ 128) × ((k : ℕ) → k < t → has row k �
 abbrev μ-loop : tie.MeasureT-loop
 μ-loop x m row s t₀ t = 128 - t
 
--- src/lib.rt:93:13
 rem-s : tie.Need-rem-s Inv-loop μ-loop
 rem-s c = search needs
 
--- src/lib.rt:95:5
 loop-holds : tie.Need-loop-holds Inv-loop μ-loop
 loop-holds c = search needs
 
--- src/lib.rt:96:22
 array-read-off-class : tie.Need-array-read-off-class Inv-loop μ-loop
 array-read-off-class c = search needs
 
--- src/lib.rt:96:12
 off-class-requires : tie.Need-off-class-requires Inv-loop μ-loop
 off-class-requires c κs = search needs
 
--- src/lib.rt:97:13
 returns : tie.Need-returns Inv-loop μ-loop
 returns c = let y = c .before .off-class .ensures .yes (c .if1 .taken) in record { yes = λ _. (c .before .before .before .loop .t, omega arith, y .0, y .1); no = λ e. true-false e }
 
--- src/lib.rt:99:9
 add-t : tie.Need-add-t Inv-loop μ-loop
 add-t c = search needs
 
--- src/lib.rt:95:5
 loop-less : tie.Need-loop-less Inv-loop μ-loop
 loop-less c = search needs
 
--- src/lib.rt:95:5
 loop-again : tie.Need-loop-again Inv-loop μ-loop
 loop-again c = let l = c .before .before .before .loop in (omega arith, below-more _ _ (l .inv .1) (λ b n. true-false (sym (c .before .off-class .ensures .back b n) ∙ c .if1 .left)))
 
--- src/lib.rt:89:1
 returns-2 : tie.Need-returns-2 Inv-loop μ-loop
 returns-2 c = record { yes = λ e. true-false (sym e); no = λ _ t h b. same-class _ _ (λ n. c .before .loop .inv .1 t (omega arith) b n) }
 

@@ -1,3 +1,5 @@
+-- `domain::under` keeps a flag exactly below x.
+-- From the test alone.
 use mathlib.Core.Path.{sym}
 use native.Mathlib.Omega.{arith}
 use borrow.Author.Needs.{needs}
@@ -5,11 +7,9 @@ use Rattle.laws.specs.Z.{true-false}
 use Rattle.domain.proofs.under.Statement.{statement}
 use Rattle.domain.proofs.under.Tie as tie
 
--- src/lib.rt:52:1
 returns : tie.Need-returns
 returns c = search needs
 
--- src/lib.rt:52:1
 returns-2 : tie.Need-returns-2
 returns-2 c = record { yes = λ e. true-false (sym e); back = λ _ e. absurd (omega (arith, c .if1 .left)) }
 

@@ -1,3 +1,5 @@
+-- `instances::instances` gives each operation the lowest instance that is free.
+-- From `seat-more` for each operation.
 use mathlib.Core.Path.{_≡_, refl}
 use Prim.Native.Nat.{ℕ, _≤_, _<_, _-_}
 use native.Mathlib.Omega.{arith}
@@ -16,52 +18,40 @@ Inv-loop x p n l resource u₀ k₀ u k = (k ≤ n) × (length u ≡ 24) × ((j 
 abbrev μ-loop : tie.MeasureT-loop
 μ-loop x p n l resource u₀ k₀ u k = n - k
 
--- src/lib.rt:62:5
 loop-holds : tie.Need-loop-holds Inv-loop μ-loop
 loop-holds c = (omega arith, refl, λ k l. absurd (omega arith))
 
--- src/lib.rt:63:17
 mul-r : tie.Need-mul-r Inv-loop μ-loop
 mul-r c = search needs
 
--- src/lib.rt:63:17
 array-read-r : tie.Need-array-read-r Inv-loop μ-loop
 array-read-r c = search needs
 
--- src/lib.rt:64:47
 mul-lowest-free : tie.Need-mul-lowest-free Inv-loop μ-loop
 mul-lowest-free c = omega (arith, c .before .before .before .pre .type-ok (c .before .loop .k) (c .loop-test .taken))
 
--- src/lib.rt:64:47
 element-copy-out-lowest-free : tie.Need-element-copy-out-lowest-free Inv-loop μ-loop
 element-copy-out-lowest-free c = c .before .before .before .pre .type-ok (c .before .loop .k) (c .loop-test .taken)
 
--- src/lib.rt:64:16
 lowest-free-requires : tie.Need-lowest-free-requires Inv-loop μ-loop
 lowest-free-requires c κs = search needs
 
--- src/lib.rt:64:9
 mul-u : tie.Need-mul-u Inv-loop μ-loop
 mul-u c = search needs
 
--- src/lib.rt:64:9
 array-write-u : tie.Need-array-write-u Inv-loop μ-loop
 array-write-u c = search needs
 
--- src/lib.rt:65:9
 add-k : tie.Need-add-k Inv-loop μ-loop
 add-k c = search needs
 
--- src/lib.rt:62:5
 loop-less : tie.Need-loop-less Inv-loop μ-loop
 loop-less c = search needs
 
--- src/lib.rt:62:5
 loop-again : tie.Need-loop-again Inv-loop μ-loop
 loop-again c = let s = c .before .before .before .before .before in let l = c .before .before .before .loop in
     (omega (arith, c .before .before .loop-test .taken), simp length-set (l .inv .1), seat-more (typeOf (s .args .t1)) (val (s .args .x)) (λ j. instancesOf (s .args .t1) (typeOf (s .args .t1) j)) (s .args .t1 .interval) (l .u) (l .k) _ (omega (arith, l .inv .1, c .before .before .loop-test .taken, s .pre .ops-ok)) (l .inv .2) (c .lowest-free .ensures))
 
--- src/lib.rt:53:1
 returns : tie.Need-returns Inv-loop μ-loop
 returns c = record { seat = λ k h. c .before .loop .inv .2 k (omega (arith, c .loop-test .left)) }
 

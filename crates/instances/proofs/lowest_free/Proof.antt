@@ -1,3 +1,5 @@
+-- `instances::lowest_free` gives the lowest of a instances that is free, or a.
+-- From `held_by` at each instance below.
 use mathlib.Core.Path.{_≡_}
 use Prim.Native.Nat.{ℕ, _≤_, _<_, _-_}
 use native.Mathlib.Omega.{arith}
@@ -14,31 +16,24 @@ Inv-loop resource x u l k a v₀ v = (v ≤ a) × ((w : ℕ) → w < v → (i : 
 abbrev μ-loop : tie.MeasureT-loop
 μ-loop resource x u l k a v₀ v = a - v
 
--- src/lib.rt:42:5
 loop-holds : tie.Need-loop-holds Inv-loop μ-loop
 loop-holds c = (omega arith, λ k l. absurd (omega arith))
 
--- src/lib.rt:43:12
 held-by-requires : tie.Need-held-by-requires Inv-loop μ-loop
 held-by-requires c κs = search needs
 
--- src/lib.rt:44:13
 add-v : tie.Need-add-v Inv-loop μ-loop
 add-v c = search needs
 
--- src/lib.rt:42:5
 loop-less : tie.Need-loop-less Inv-loop μ-loop
 loop-less c = search needs
 
--- src/lib.rt:42:5
 loop-again : tie.Need-loop-again Inv-loop μ-loop
 loop-again c = (omega (arith, c .before .before .loop-test .taken), below-more _ _ (c .before .before .before .loop .inv .1) (c .before .held-by .ensures .yes (c .if1 .taken)))
 
--- src/lib.rt:46:13
 returns : tie.Need-returns Inv-loop μ-loop
 returns c = record { within = c .before .before .before .loop .inv .0; taken = c .before .before .before .loop .inv .1; unused = λ _. c .before .held-by .ensures .no (c .if1 .left) }
 
--- src/lib.rt:37:1
 returns-2 : tie.Need-returns-2 Inv-loop μ-loop
 returns-2 c = search needs
 

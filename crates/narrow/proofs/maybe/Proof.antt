@@ -1,17 +1,16 @@
+-- `narrow::maybe` keeps the supported starts, or all.
+-- From what `supported` promises.
 use borrow.Author.Needs.{needs}
 use Rattle.laws.specs.Z.{kept}
 use Rattle.narrow.proofs.maybe.Statement.{statement}
 use Rattle.narrow.proofs.maybe.Tie as tie
 
--- src/lib.rt:16:9
 supported-requires : tie.Need-supported-requires
 supported-requires c κs = search needs
 
--- src/lib.rt:16:9
 returns : tie.Need-returns
 returns c = let s = c .before .before in rw (kept (s .fits .there), kept (s .fits .back)) at (c .supported .ensures)
 
--- src/lib.rt:11:1
 returns-2 : tie.Need-returns-2
 returns-2 c = search needs
 

@@ -1,4 +1,6 @@
-use Prim.Native.Nat.{_≤_, _-_}
+-- `narrow::narrow` loses no plan: no step does.
+-- From `keeps-self` and `keeps-trans`, whichever steps are taken.
+use Prim.Native.Nat.{_-_, _≤_}
 use native.Mathlib.Omega.{arith}
 use borrow.Author.Needs.{needs}
 use Rattle.domain.specs.Domain.{Keeps}
@@ -8,48 +10,44 @@ use Rattle.narrow.proofs.narrow.Statement.{statement}
 use Rattle.narrow.proofs.narrow.Tie as tie
 
 abbrev Inv-loop : tie.InvT-loop
-Inv-loop p n d₀ dirty₀ fuel₀ d dirty fuel = (fuel ≤ 10000) × Keeps (PlanOf p) n d₀ d
+Inv-loop p n near d₀ dirty₀ changed₀ fuel₀ d dirty changed fuel = (fuel ≤ 10000) × Keeps (PlanOf p) n d₀ d
 
 abbrev μ-loop : tie.MeasureT-loop
-μ-loop p n d₀ dirty₀ fuel₀ d dirty fuel = 10000 - fuel
+μ-loop p n near d₀ dirty₀ changed₀ fuel₀ d dirty changed fuel = 10000 - fuel
 
--- src/lib.rt:122:5
 loop-holds : tie.Need-loop-holds Inv-loop μ-loop
-loop-holds c = (omega arith, keeps-self (PlanOf (c .args .p)) _ _)
+loop-holds c = (omega arith, keeps-self (PlanOf (c .before .args .p)) _ _)
 
--- src/lib.rt:123:13
-first-dirty-requires : tie.Need-first-dirty-requires Inv-loop μ-loop
-first-dirty-requires c κs = search needs
+first-marked-requires : tie.Need-first-marked-requires Inv-loop μ-loop
+first-marked-requires c κs = search needs
 
--- src/lib.rt:124:13
 step-requires : tie.Need-step-requires Inv-loop μ-loop
 step-requires c κs = search needs
 
--- src/lib.rt:125:13
-marks-requires : tie.Need-marks-requires Inv-loop μ-loop
-marks-requires c κs = search needs
+changes-requires : tie.Need-changes-requires Inv-loop μ-loop
+changes-requires c κs = search needs
 
--- src/lib.rt:128:12
 settled-requires : tie.Need-settled-requires Inv-loop μ-loop
 settled-requires c κs = search needs
 
--- src/lib.rt:129:13
 returns : tie.Need-returns Inv-loop μ-loop
-returns c = keeps-trans (PlanOf (c .before .before .before .before .before .before .before .args .p)) _ (c .before .before .before .before .before .before .loop .inv .1) (c .before .before .before .step .ensures)
+returns c = keeps-trans (PlanOf (c .before .before .before .before .before .before .before .before .args .p)) _ (c .before .before .before .before .before .before .loop .inv .1) (c .before .before .before .step .ensures)
 
--- src/lib.rt:131:9
+marks-requires : tie.Need-marks-requires Inv-loop μ-loop
+marks-requires c κs = search needs
+
+since-requires : tie.Need-since-requires Inv-loop μ-loop
+since-requires c κs = search needs
+
 add-fuel : tie.Need-add-fuel Inv-loop μ-loop
 add-fuel c = search needs
 
--- src/lib.rt:122:5
 loop-less : tie.Need-loop-less Inv-loop μ-loop
 loop-less c = search needs
 
--- src/lib.rt:122:5
 loop-again : tie.Need-loop-again Inv-loop μ-loop
-loop-again c = (omega (arith, c .before .before .before .before .before .loop-test .taken), keeps-trans (PlanOf (c .before .before .before .before .before .before .before .args .p)) _ (c .before .before .before .before .before .before .loop .inv .1) (c .before .before .before .step .ensures))
+loop-again c = (omega (arith, c .before .before .before .before .before .before .before .loop-test .taken), keeps-trans (PlanOf (c .before .before .before .before .before .before .before .before .before .before .args .p)) _ (c .before .before .before .before .before .before .before .before .loop .inv .1) (c .before .before .before .before .before .step .ensures))
 
--- src/lib.rt:114:1
 returns-2 : tie.Need-returns-2 Inv-loop μ-loop
 returns-2 c = search needs
 
@@ -60,11 +58,13 @@ narrow-spec =
     Inv-loop
     μ-loop
     loop-holds
-    first-dirty-requires
+    first-marked-requires
     step-requires
-    marks-requires
+    changes-requires
     settled-requires
     returns
+    marks-requires
+    since-requires
     add-fuel
     loop-less
     loop-again

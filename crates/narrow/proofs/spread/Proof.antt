@@ -1,3 +1,5 @@
+-- `narrow::spread` loses no plan: every plan keeps the lags of a ready task.
+-- From `spread-keeps` for each operation near i.
 use mathlib.Core.Path.{_≡_}
 use Prim.Native.Nat.{_≤_, _-_}
 use native.Mathlib.Omega.{arith}
@@ -16,89 +18,68 @@ Inv-loop i p n next d₀ j₀ d j = (j ≤ n) × (length d ≡ 24) × Keeps (Pla
 abbrev μ-loop : tie.MeasureT-loop
 μ-loop i p n next d₀ j₀ d j = n - j
 
--- src/lib.rt:27:37
 mul-next-starts : tie.Need-mul-next-starts Inv-loop μ-loop
 mul-next-starts c = search needs
 
--- src/lib.rt:27:37
 array-copy-out-next-starts : tie.Need-array-copy-out-next-starts Inv-loop μ-loop
 array-copy-out-next-starts c = search needs
 
--- src/lib.rt:27:9
 next-starts-requires : tie.Need-next-starts-requires Inv-loop μ-loop
 next-starts-requires c κs = search needs
 
--- src/lib.rt:30:5
 loop-holds : tie.Need-loop-holds Inv-loop μ-loop
 loop-holds c = search needs
 
--- src/lib.rt:31:21
 mul-there : tie.Need-mul-there Inv-loop μ-loop
 mul-there c = search needs
 
--- src/lib.rt:31:21
 add-there : tie.Need-add-there Inv-loop μ-loop
 add-there c = search needs
 
--- src/lib.rt:32:20
 mul-back : tie.Need-mul-back Inv-loop μ-loop
 mul-back c = search needs
 
--- src/lib.rt:32:20
 add-back : tie.Need-add-back Inv-loop μ-loop
 add-back c = search needs
 
--- src/lib.rt:33:22
 element-copy-out-maybe : tie.Need-element-copy-out-maybe Inv-loop μ-loop
 element-copy-out-maybe c = search needs
 
--- src/lib.rt:33:43
 mul-maybe : tie.Need-mul-maybe Inv-loop μ-loop
 mul-maybe c = search needs
 
--- src/lib.rt:33:43
 array-copy-out-maybe : tie.Need-array-copy-out-maybe Inv-loop μ-loop
 array-copy-out-maybe c = search needs
 
--- src/lib.rt:33:49
 mul-maybe-2 : tie.Need-mul-maybe-2 Inv-loop μ-loop
 mul-maybe-2 c = search needs
 
--- src/lib.rt:33:49
 element-copy-out-maybe-2 : tie.Need-element-copy-out-maybe-2 Inv-loop μ-loop
 element-copy-out-maybe-2 c = search needs
 
--- src/lib.rt:33:63
 mul-maybe-3 : tie.Need-mul-maybe-3 Inv-loop μ-loop
 mul-maybe-3 c = search needs
 
--- src/lib.rt:33:63
 element-copy-out-maybe-3 : tie.Need-element-copy-out-maybe-3 Inv-loop μ-loop
 element-copy-out-maybe-3 c = search needs
 
--- src/lib.rt:33:16
 maybe-requires : tie.Need-maybe-requires Inv-loop μ-loop
 maybe-requires c κs = let s = c .before .before .before .before .before .before .before .before in let l = c .before .before .before .before .before .loop in let g = s .pre .0 .lags in let hi = s .pre .1 in let hj = c .before .before .before .before .loop-test .taken in
     rw (kept (fits32 (c .before .maybe-arg3 .given)), kept (fits32 (c .maybe-arg4 .given)))
     (record { low = g .low (s .args .i) (l .j) hi hj; high = g .high (s .args .i) (l .j) hi hj }, record { low = g .low (l .j) (s .args .i) hj hi; high = g .high (l .j) (s .args .i) hj hi })
 
--- src/lib.rt:33:9
 mul-d : tie.Need-mul-d Inv-loop μ-loop
 mul-d c = search needs
 
--- src/lib.rt:33:9
 array-set-from-d : tie.Need-array-set-from-d Inv-loop μ-loop
 array-set-from-d c = search needs
 
--- src/lib.rt:34:9
 add-j : tie.Need-add-j Inv-loop μ-loop
 add-j c = search needs
 
--- src/lib.rt:30:5
 loop-less : tie.Need-loop-less Inv-loop μ-loop
 loop-less c = search needs
 
--- src/lib.rt:30:5
 loop-again : tie.Need-loop-again Inv-loop μ-loop
 loop-again c = let s = c .before .before .before .before .before .before .before .before .before in let l = c .before .before .before .before .before .before .loop in let hi = s .pre .1 in let hj = c .before .before .before .before .before .loop-test .taken in (
   omega (arith, hj),
@@ -107,7 +88,6 @@ loop-again c = let s = c .before .before .before .before .before .before .before
       (rw (kept (fits32 (c .before .before .maybe-arg3 .given)), kept (fits32 (c .before .maybe-arg4 .given))) at (c .maybe .ensures)) (l .inv .2),
 )
 
--- src/lib.rt:22:1
 returns : tie.Need-returns Inv-loop μ-loop
 returns c = search needs
 

@@ -1,3 +1,5 @@
+-- `search::search` finds a plan in the domain, or shows that there is none; the allowed starts get fewer with each call.
+-- From `left-all` and `left-next` over the classes, `child-less` for the measure.
 use mathlib.Core.Path.{_≡_, refl}
 use Prim.Native.Nat.{_≤_, ℕ, _<_}
 use native.Mathlib.Omega.{arith}
@@ -13,9 +15,9 @@ use Rattle.search.proofs.search.Reads as search′
 use Rattle.search.proofs.search.Kinds as search-kinds
 use Rattle.search.proofs.+search.Lts-search as search-lts
 use Rattle.narrow.proofs.narrow.Reads as narrow-reads
-use Rattle.search.proofs.blamed.Reads as blamed-reads
-use Rattle.search.proofs.look.Reads as look-reads
-use Rattle.search.proofs.single.Reads as single-reads
+use Rattle.search.proofs.choose.blamed.Reads as blamed-reads
+use Rattle.search.proofs.look.look.Reads as look-reads
+use Rattle.search.proofs.choose.single.Reads as single-reads
 use Rattle.domain.proofs.least.Reads as least-reads
 use Rattle.domain.proofs.only_class.Reads as only-class-reads
 use Rattle.domain.proofs.without_class.Reads as without-class-reads
@@ -68,80 +70,61 @@ few t c = c .pre .1 .task .ops-ok
 op-in : (t : ℕ) (c : search-lts.Else1 (callees t) (search-at t) search′.Post search-Inv-loop search-μ-loop) → c .before .look .result .op < 24
 op-in t c = omega (arith, here t c .op, few t (c .before .before .before))
 
--- src/lib.rt:212:13
 search-narrow-requires : (t : ℕ) → search-lts.Need-narrow-requires (callees t) (search-at t) search′.Post search-Inv-loop search-μ-loop
 search-narrow-requires t c κs = c .pre .1
 
--- src/lib.rt:213:9
 search-look-requires : (t : ℕ) → search-lts.Need-look-requires (callees t) (search-at t) search′.Post search-Inv-loop search-μ-loop
 search-look-requires t c κs = c .before .pre .1
 
--- src/lib.rt:217:9
 search-returns : (t : ℕ) → search-lts.Need-returns (callees t) (search-at t) search′.Post search-Inv-loop search-μ-loop
 search-returns t c = solved-wider (PlanOf (c .before .before .before .before .args .p)) _ (c .before .before .before .narrow .ensures) (c .before .before .look .ensures .done (c .before .if1 .taken))
 
--- src/lib.rt:221:9
 search-single-requires : (t : ℕ) → search-lts.Need-single-requires (callees t) (search-at t) search′.Post search-Inv-loop search-μ-loop
 search-single-requires t c κs = op-in t c
 
--- src/lib.rt:222:19
 search-mul-row : (t : ℕ) → search-lts.Need-mul-row (callees t) (search-at t) search′.Post search-Inv-loop search-μ-loop
 search-mul-row t c = omega (arith, op-in t (c .before))
 
--- src/lib.rt:222:19
 search-array-copy-out-row : (t : ℕ) → search-lts.Need-array-copy-out-row (callees t) (search-at t) search′.Post search-Inv-loop search-μ-loop
 search-array-copy-out-row t c = op-in t (c .before)
 
--- src/lib.rt:224:5
 search-loop-holds : (t : ℕ) → search-lts.Need-loop-holds (callees t) (search-at t) search′.Post search-Inv-loop search-μ-loop
 search-loop-holds t c = left-all (PlanOf (c .before .before .before .before .before .args .p)) _ (narrowed t (c .before .before .before .before)) (few t (c .before .before .before .before .before)) (here t (c .before .before))
 
--- src/lib.rt:225:13
 search-least-requires : (t : ℕ) → search-lts.Need-least-requires (callees t) (search-at t) search′.Post search-Inv-loop search-μ-loop
 search-least-requires t c κs = search needs
 
--- src/lib.rt:227:13
 search-returns-2 : (t : ℕ) → search-lts.Need-returns-2 (callees t) (search-at t) search′.Post search-Inv-loop search-μ-loop
 search-returns-2 t c = solved-wider (PlanOf (c .before .before .before .before .before .before .before .before .args .p)) _ (c .before .before .before .before .before .before .before .narrow .ensures) (left-none (PlanOf (c .before .before .before .before .before .before .before .before .args .p)) _ (narrowed t (c .before .before .before .before .before .before .before)) (few t (c .before .before .before .before .before .before .before .before)) (here t (c .before .before .before .before .before)) (c .before .before .loop .inv) (c .before .least .ensures) (c .if2 .taken))
 
--- src/lib.rt:233:17
 search-rem-s : (t : ℕ) → search-lts.Need-rem-s (callees t) (search-at t) search′.Post search-Inv-loop search-μ-loop
 search-rem-s t c = here t (c .before .before .before .before .before) .positive
 
--- src/lib.rt:235:16
 search-only-class-requires : (t : ℕ) → search-lts.Need-only-class-requires (callees t) (search-at t) search′.Post search-Inv-loop search-μ-loop
 search-only-class-requires t c κs = here t (c .before .before .before .before .before) .positive
 
--- src/lib.rt:235:9
 search-mul-c : (t : ℕ) → search-lts.Need-mul-c (callees t) (search-at t) search′.Post search-Inv-loop search-μ-loop
 search-mul-c t c = omega (arith, op-in t (c .before .before .before .before .before .before))
 
--- src/lib.rt:235:9
 search-array-set-from-c : (t : ℕ) → search-lts.Need-array-set-from-c (callees t) (search-at t) search′.Post search-Inv-loop search-μ-loop
 search-array-set-from-c t c = op-in t (c .before .before .before .before .before .before)
 
--- src/lib.rt:236:13
 search-search-requires : (t : ℕ) → search-lts.Need-search-requires (callees t) (search-at t) search′.Post search-Inv-loop search-μ-loop
 search-search-requires t c κs = let s = c .before .before .before .before .before .before .before .before .before in
     (omega (arith, s .pre .0, size-le (c .before .before .before .before .before .before .before .before .narrow .ensures .within), child-less (PlanOf (c .before .before .before .before .before .before .before .before .before .args .p)) _ (narrowed t (c .before .before .before .before .before .before .before .before)) (few t (c .before .before .before .before .before .before .before .before .before)) (here t (c .before .before .before .before .before .before)) (c .before .before .before .loop .inv) (c .only-class .ensures)), s .pre .1)
 
--- src/lib.rt:238:13
 search-returns-3 : (t : ℕ) → search-lts.Need-returns-3 (callees t) (search-at t) search′.Post search-Inv-loop search-μ-loop
 search-returns-3 t c = solved-wider (PlanOf (c .before .before .before .before .before .before .before .before .before .before .before .args .p)) _ (c .before .before .before .before .before .before .before .before .before .before .narrow .ensures) (child-found (PlanOf (c .before .before .before .before .before .before .before .before .before .before .before .args .p)) _ (narrowed t (c .before .before .before .before .before .before .before .before .before .before)) (few t (c .before .before .before .before .before .before .before .before .before .before .before)) (here t (c .before .before .before .before .before .before .before .before)) (c .before .before .before .before .before .loop .inv) (c .before .before .only-class .ensures) (c .before .search .ensures) (c .if3 .taken))
 
--- src/lib.rt:241:13
 search-blamed-requires : (t : ℕ) → search-lts.Need-blamed-requires (callees t) (search-at t) search′.Post search-Inv-loop search-μ-loop
 search-blamed-requires t c κs = op-in t (c .before .before .before .before .before .before .before .before .before)
 
--- src/lib.rt:243:13
 search-without-class-requires : (t : ℕ) → search-lts.Need-without-class-requires (callees t) (search-at t) search′.Post search-Inv-loop search-μ-loop
 search-without-class-requires t c κs = here t (c .before .before .before .before .before .before .before .before .before .before) .positive
 
--- src/lib.rt:224:5
 search-loop-less : (t : ℕ) → search-lts.Need-loop-less (callees t) (search-at t) search′.Post search-Inv-loop search-μ-loop
 search-loop-less t c = let z = c .before .before .before .before .before .before .before .least .ensures in rest-less (c .without-class .ensures) z (omega (arith, z .within, c .before .before .before .before .before .before .if2 .left)) refl
 
--- src/lib.rt:224:5
 search-loop-again : (t : ℕ) → search-lts.Need-loop-again (callees t) (search-at t) search′.Post search-Inv-loop search-μ-loop
 search-loop-again t c = left-next (PlanOf (c .before .before .before .before .before .before .before .before .before .before .before .before .before .before .args .p)) _ (narrowed t (c .before .before .before .before .before .before .before .before .before .before .before .before .before)) (few t (c .before .before .before .before .before .before .before .before .before .before .before .before .before .before)) (here t (c .before .before .before .before .before .before .before .before .before .before .before)) (c .before .before .before .before .before .before .before .before .loop .inv) (c .before .before .before .before .before .only-class .ensures) (c .before .before .before .before .search .ensures) (c .before .before .before .if3 .left) (c .without-class .ensures)
 

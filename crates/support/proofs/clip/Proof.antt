@@ -1,3 +1,5 @@
+-- `support::clip` brings a signed number into 0 to 128.
+-- From `clip-neg`, `clip-mid` and `clip-top`.
 use native.Mathlib.Omega.{arith}
 use lib.IntN.{pos}
 use Rattle.laws.specs.Z.{kept, ltZ-true, ltZ-false}
@@ -5,19 +7,15 @@ use Rattle.support.specs.SupportLaws.{clip-neg, clip-mid, clip-top, non-
 use Rattle.support.proofs.clip.Statement.{statement}
 use Rattle.support.proofs.clip.Tie as tie
 
--- src/lib.rt:12:9
 returns : tie.Need-returns
 returns c = clip-neg (ltZ-true _ _ (rw (kept (c .before .fits .z)) at (c .if1 .taken)))
 
--- src/lib.rt:15:16
 cast-result : tie.Need-cast-result
 cast-result c = let h = ltZ-false (c .before .before .args .z) (pos 0) (rw (kept (c .before .before .fits .z)) at (c .before .if1 .left)) in let k = ltZ-true (c .before .before .args .z) (pos 128) (rw (kept (c .before .before .fits .z)) at (c .if2 .taken)) in let q = abs-small h k in rw (kept (c .before .before .fits .z)) (non-neg h, omega (arith, q))
 
--- src/lib.rt:15:9
 returns-2 : tie.Need-returns-2
 returns-2 c = let h = ltZ-false _ _ (rw (kept (c .before .before .fits .z)) at (c .before .if1 .left)) in let k = ltZ-true _ _ (rw (kept (c .before .before .fits .z)) at (c .if2 .taken)) in rw (kept (c .before .before .fits .z)) (clip-mid h k)
 
--- src/lib.rt:8:1
 returns-3 : tie.Need-returns-3
 returns-3 c = clip-top (ltZ-false _ _ (rw (kept (c .before .before .fits .z)) at (c .if2 .left)))
 

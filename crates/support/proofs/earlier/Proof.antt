@@ -1,13 +1,13 @@
+-- `support::earlier` chooses one of two numbers by a flag.
+-- From the test alone.
 use mathlib.Core.Path.{refl, sym, _∙_}
 use Rattle.laws.specs.Z.{true-false}
 use Rattle.support.proofs.earlier.Statement.{statement}
 use Rattle.support.proofs.earlier.Tie as tie
 
--- src/lib.rt:37:1
 returns : tie.Need-returns
 returns c = record { yes = λ _. refl; no = λ e. true-false (sym (c .if1 .taken) ∙ e) }
 
--- src/lib.rt:37:1
 returns-2 : tie.Need-returns-2
 returns-2 c = record { yes = λ e. true-false (sym e ∙ c .if1 .left); no = λ _. refl }
 

@@ -1,18 +1,17 @@
+-- `support::high_end_if` is the high end where the start is allowed.
+-- From `high_end`.
 use mathlib.Core.Path.{sym, _∙_}
 use borrow.Author.Needs.{needs}
 use Rattle.laws.specs.Z.{true-false, kept}
 use Rattle.support.proofs.high_end_if.Statement.{statement}
 use Rattle.support.proofs.high_end_if.Tie as tie
 
--- src/lib.rt:52:9
 high-end-requires : tie.Need-high-end-requires
 high-end-requires c κs = search needs
 
--- src/lib.rt:52:9
 returns : tie.Need-returns
 returns c = record { when = λ _. rw (kept (c .before .before .fits .lag)) at (c .high-end .ensures) }
 
--- src/lib.rt:47:1
 returns-2 : tie.Need-returns-2
 returns-2 c = record { when = λ e. true-false (sym e ∙ c .if1 .left) }
 

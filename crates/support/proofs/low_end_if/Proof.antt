@@ -1,3 +1,5 @@
+-- `support::low_end_if` is the low end where the start is allowed.
+-- From `low_end`.
 use mathlib.Core.Path.{sym, _∙_}
 use native.Mathlib.Omega.{arith}
 use borrow.Author.Needs.{needs}
@@ -5,15 +7,12 @@ use Rattle.laws.specs.Z.{true-false, kept}
 use Rattle.support.proofs.low_end_if.Statement.{statement}
 use Rattle.support.proofs.low_end_if.Tie as tie
 
--- src/lib.rt:42:9
 low-end-requires : tie.Need-low-end-requires
 low-end-requires c κs = search needs
 
--- src/lib.rt:42:9
 returns : tie.Need-returns
 returns c = record { within = c .low-end .ensures .within; when = λ _. rw (kept (c .before .before .fits .lag)) at (c .low-end .ensures) }
 
--- src/lib.rt:37:1
 returns-2 : tie.Need-returns-2
 returns-2 c = record { within = omega arith; when = λ e. true-false (sym e ∙ c .if1 .left) }
 

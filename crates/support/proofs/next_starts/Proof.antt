@@ -1,3 +1,5 @@
+-- `support::next_starts` has for each a no more than the least start from a on.
+-- From `next-step`, from the last start down.
 use mathlib.Core.Path.{_≡_, refl}
 use Prim.Native.Nat.{_≤_, _-_}
 use native.Mathlib.Omega.{arith}
@@ -14,48 +16,37 @@ Inv-loop row next₀ a₀ next a = (a ≤ 128) × (length next ≡ 129) × NextF
 abbrev μ-loop : tie.MeasureT-loop
 μ-loop row next₀ a₀ next a = a
 
--- src/lib.rt:49:5
 loop-holds : tie.Need-loop-holds Inv-loop μ-loop
 loop-holds c = (omega arith, refl, next-none _ _)
 
--- src/lib.rt:50:17
 sub-k : tie.Need-sub-k Inv-loop μ-loop
 sub-k c = search needs
 
--- src/lib.rt:51:27
 array-read-earlier : tie.Need-array-read-earlier Inv-loop μ-loop
 array-read-earlier c = search needs
 
--- src/lib.rt:51:38
 mul-earlier : tie.Need-mul-earlier Inv-loop μ-loop
 mul-earlier c = search needs
 
--- src/lib.rt:51:38
 array-read-earlier-2 : tie.Need-array-read-earlier-2 Inv-loop μ-loop
 array-read-earlier-2 c = search needs
 
--- src/lib.rt:51:19
 earlier-requires : tie.Need-earlier-requires Inv-loop μ-loop
 earlier-requires c κs = search needs
 
--- src/lib.rt:51:9
 mul-next : tie.Need-mul-next Inv-loop μ-loop
 mul-next c = search needs
 
--- src/lib.rt:51:9
 array-write-next : tie.Need-array-write-next Inv-loop μ-loop
 array-write-next c = search needs
 
--- src/lib.rt:49:5
 loop-less : tie.Need-loop-less Inv-loop μ-loop
 loop-less c = search needs
 
--- src/lib.rt:49:5
 loop-again : tie.Need-loop-again Inv-loop μ-loop
 loop-again c = let l = c .before .before .loop in let h = c .before .loop-test .taken in
     (omega arith, simp length-set (l .inv .1), next-step _ (l .next) (l .a) (l .a - 1) _ (omega arith) (omega arith) (l .inv .1) (l .inv .2) (c .earlier .ensures))
 
--- src/lib.rt:44:1
 returns : tie.Need-returns Inv-loop μ-loop
 returns c = let e : c .before .loop .a ≡ 0 = omega arith in rw e at (c .before .loop .inv .2)
 

@@ -1,3 +1,5 @@
+-- `support::supported` keeps each start that some start of the other row supports.
+-- From `supported-at` at each start, and `supported-all`.
 use mathlib.Core.Path.{_≡_}
 use mathlib.Core.Bool.{false}
 use Prim.Native.Nat.{ℕ, _≤_, _<_, _-_}
@@ -20,47 +22,36 @@ Inv-loop there back next row out₀ t₀ out t = (t ≤ 128) × (length out ≡ 
 abbrev μ-loop : tie.MeasureT-loop
 μ-loop there back next row out₀ t₀ out t = 128 - t
 
--- src/lib.rt:84:5
 loop-holds : tie.Need-loop-holds Inv-loop μ-loop
 loop-holds c = (omega arith, search needs, λ k l. absurd (omega arith))
 
--- src/lib.rt:85:17
 array-read-b : tie.Need-array-read-b Inv-loop μ-loop
 array-read-b c = search needs
 
--- src/lib.rt:86:13
 low-end-if-requires : tie.Need-low-end-if-requires Inv-loop μ-loop
 low-end-if-requires c κs = search needs
 
--- src/lib.rt:87:13
 high-end-if-requires : tie.Need-high-end-if-requires Inv-loop μ-loop
 high-end-if-requires c κs = search needs
 
--- src/lib.rt:88:34
 mul-under : tie.Need-mul-under Inv-loop μ-loop
 mul-under c = search needs
 
--- src/lib.rt:88:34
 array-read-under : tie.Need-array-read-under Inv-loop μ-loop
 array-read-under c = search needs
 
--- src/lib.rt:88:18
 under-requires : tie.Need-under-requires Inv-loop μ-loop
 under-requires c κs = search needs
 
--- src/lib.rt:88:9
 array-write-out : tie.Need-array-write-out Inv-loop μ-loop
 array-write-out c = search needs
 
--- src/lib.rt:89:9
 add-t : tie.Need-add-t Inv-loop μ-loop
 add-t c = search needs
 
--- src/lib.rt:84:5
 loop-less : tie.Need-loop-less Inv-loop μ-loop
 loop-less c = search needs
 
--- src/lib.rt:84:5
 loop-again : tie.Need-loop-again Inv-loop μ-loop
 loop-again c = let l = c .before .before .before .before .loop in let s = c .before .before .before .before .before in (
   omega arith,
@@ -69,7 +60,6 @@ loop-again c = let l = c .before .before .before .before .loop in let s = c .bef
       (supported-at _ _ (c .before .before .low-end-if .ensures) (c .before .high-end-if .ensures) (c .under .ensures)) (l .inv .2),
 )
 
--- src/lib.rt:78:1
 returns : tie.Need-returns Inv-loop μ-loop
 returns c = let s = c .before .before in let l = c .before .loop in
     supported-all (λ t h. rw (kept (s .fits .there), kept (s .fits .back)) at (l .inv .2 t (omega arith)))

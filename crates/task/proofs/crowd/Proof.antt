@@ -1,3 +1,5 @@
+-- `task::crowd` counts the operations of a type in a slot.
+-- From `tally-more` for each operation.
 use mathlib.Core.Path.{ap₂, _≡_, sym, ap, _∙_}
 use Prim.Native.Nat.{ℕ, _+_, _≤_, _-_}
 use native.Mathlib.Omega.{arith}
@@ -14,48 +16,37 @@ Inv-loop n l r s resource x c₀ i₀ c i = (i ≤ n) × (c ≤ i) × (c ≡ tal
 abbrev μ-loop : tie.MeasureT-loop
 μ-loop n l r s resource x c₀ i₀ c i = n - i
 
--- src/lib.rt:70:5
 loop-holds : tie.Need-loop-holds Inv-loop μ-loop
 loop-holds c = (omega arith, omega arith, sym (tally-none _))
 
--- src/lib.rt:71:23
 mul-held-bit : tie.Need-mul-held-bit Inv-loop μ-loop
 mul-held-bit c = search needs
 
--- src/lib.rt:71:23
 array-read-held-bit : tie.Need-array-read-held-bit Inv-loop μ-loop
 array-read-held-bit c = search needs
 
--- src/lib.rt:71:33
 mul-held-bit-2 : tie.Need-mul-held-bit-2 Inv-loop μ-loop
 mul-held-bit-2 c = search needs
 
--- src/lib.rt:71:33
 array-read-held-bit-2 : tie.Need-array-read-held-bit-2 Inv-loop μ-loop
 array-read-held-bit-2 c = search needs
 
--- src/lib.rt:71:14
 held-bit-requires : tie.Need-held-bit-requires Inv-loop μ-loop
 held-bit-requires c κs = search needs
 
--- src/lib.rt:71:9
 add-c : tie.Need-add-c Inv-loop μ-loop
 add-c c = search needs
 
--- src/lib.rt:72:9
 add-i : tie.Need-add-i Inv-loop μ-loop
 add-i c = search needs
 
--- src/lib.rt:70:5
 loop-less : tie.Need-loop-less Inv-loop μ-loop
 loop-less c = search needs
 
--- src/lib.rt:70:5
 loop-again : tie.Need-loop-again Inv-loop μ-loop
 loop-again c = let l = c .before .before .loop in
     (omega arith, omega arith, ap₂ _+_ (l .inv .2) (c .held-bit .ensures .0) ∙ sym (tally-more (l .i) _))
 
--- src/lib.rt:64:1
 returns : tie.Need-returns Inv-loop μ-loop
 returns c = let a = c .before .before .args in
     let e : c .before .loop .i ≡ a .n = omega arith in

@@ -1,3 +1,5 @@
+-- `task::is_plan` says whether the starts are a plan's.
+-- From `plan-show` of the two tests.
 use mathlib.Core.Path.{sym}
 use borrow.Author.Needs.{needs}
 use Rattle.laws.specs.Z.{true-false}
@@ -5,20 +7,16 @@ use Rattle.task.specs.PlanLaws.{plan-show}
 use Rattle.task.proofs.is_plan.Statement.{statement}
 use Rattle.task.proofs.is_plan.Tie as tie
 
--- src/lib.rt:109:8
 edges-met-requires : tie.Need-edges-met-requires
 edges-met-requires c κs = search needs
 
--- src/lib.rt:110:9
 room-kept-requires : tie.Need-room-kept-requires
 room-kept-requires c κs = search needs
 
--- src/lib.rt:110:9
 returns : tie.Need-returns
 returns c = let s = c .before .before .before in
     record { yes = λ e. plan-show _ (s .pre .0) (c .before .before .edges-met .ensures) (c .before .if1 .taken) (c .room-kept .ensures) e; no = c .room-kept .ensures .no }
 
--- src/lib.rt:105:1
 returns-2 : tie.Need-returns-2
 returns-2 c = record { yes = λ e. true-false (sym e); no = λ _ h. c .before .edges-met .ensures .no (c .if1 .left) h }
 

@@ -1,3 +1,5 @@
+-- `task::room_kept` says whether no slot has too many operations of a limited type.
+-- From `crowd` and `over` at each operation's own slot.
 use mathlib.Core.Path.{sym}
 use Prim.Native.Nat.{ℕ, _≤_, _<_, _-_, _%_}
 use native.Mathlib.Omega.{arith}
@@ -17,66 +19,51 @@ Inv-loop p x n l resource i₀ i = (i ≤ n) × ((k : ℕ) → k < i → 0 < ins
 abbrev μ-loop : tie.MeasureT-loop
 μ-loop p x n l resource i₀ i = n - i
 
--- src/lib.rt:93:5
 loop-holds : tie.Need-loop-holds Inv-loop μ-loop
 loop-holds c = search needs
 
--- src/lib.rt:94:17
 mul-r : tie.Need-mul-r Inv-loop μ-loop
 mul-r c = search needs
 
--- src/lib.rt:94:17
 array-read-r : tie.Need-array-read-r Inv-loop μ-loop
 array-read-r c = search needs
 
--- src/lib.rt:95:42
 mul-crowd : tie.Need-mul-crowd Inv-loop μ-loop
 mul-crowd c = search needs
 
--- src/lib.rt:95:42
 array-read-crowd : tie.Need-array-read-crowd Inv-loop μ-loop
 array-read-crowd c = search needs
 
--- src/lib.rt:95:42
 rem-crowd : tie.Need-rem-crowd Inv-loop μ-loop
 rem-crowd c = search needs
 
--- src/lib.rt:95:13
 crowd-requires : tie.Need-crowd-requires Inv-loop μ-loop
 crowd-requires c κs = search needs
 
--- src/lib.rt:96:17
 mul-over : tie.Need-mul-over Inv-loop μ-loop
 mul-over c = let s = c .before .before .before .before in omega (arith, s .pre .0 .type-ok (c .before .before .loop .i) (c .before .loop-test .taken))
 
--- src/lib.rt:96:17
 element-copy-out-over : tie.Need-element-copy-out-over Inv-loop μ-loop
 element-copy-out-over c = let s = c .before .before .before .before in s .pre .0 .type-ok (c .before .before .loop .i) (c .before .loop-test .taken)
 
--- src/lib.rt:96:12
 over-requires : tie.Need-over-requires Inv-loop μ-loop
 over-requires c κs = search needs
 
--- src/lib.rt:97:13
 returns : tie.Need-returns Inv-loop μ-loop
 returns c = let s = c .before .before .before .before .before .before .before in
     let y = c .before .over .ensures .yes (c .if1 .taken) in
     record { yes = λ e. true-false (sym e); no = λ _ h. let z = h .room _ (val (s .args .t2) (c .before .before .before .before .before .loop .i) % s .args .t1 .interval) (y .0) in omega (arith, c .before .before .before .crowd .ensures) }
 
--- src/lib.rt:99:9
 add-i : tie.Need-add-i Inv-loop μ-loop
 add-i c = search needs
 
--- src/lib.rt:93:5
 loop-less : tie.Need-loop-less Inv-loop μ-loop
 loop-less c = search needs
 
--- src/lib.rt:93:5
 loop-again : tie.Need-loop-again Inv-loop μ-loop
 loop-again c = let l = c .before .before .before .before .before .loop in
     (omega (arith, c .before .before .before .before .loop-test .taken), below-more _ _ (l .inv .1) (λ h. let q = c .before .over .ensures .no (c .if1 .left) h in omega (arith, c .before .before .before .crowd .ensures)))
 
--- src/lib.rt:85:1
 returns-2 : tie.Need-returns-2 Inv-loop μ-loop
 returns-2 c = record { yes = λ _ i h a. c .before .loop .inv .1 i (omega (arith, c .loop-test .left)) a; no = λ e. true-false e }
 

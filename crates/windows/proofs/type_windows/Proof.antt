@@ -1,5 +1,8 @@
+-- `windows::type_windows` loses no plan: the bars from each slot hold of every plan in the domain.
+-- From `bars-keep` where rows were cut, and `bars-none` where a window takes too few.
 use mathlib.Core.Bool.{false}
-use Prim.Native.Nat.{_≤_, _<_, _-_}
+use mathlib.Core.Logic.{⊎-elim}
+use Prim.Native.Nat.{_-_, _≤_, _<_}
 use native.Mathlib.Omega.{arith}
 use lib.ListN.{replicate}
 use borrow.Author.Needs.{needs}
@@ -10,52 +13,53 @@ use Rattle.windows.proofs.type_windows.Statement.{statement}
 use Rattle.windows.proofs.type_windows.Tie as tie
 
 abbrev Inv-loop : tie.InvT-loop
-Inv-loop p z r n l resource used reach₀ d₀ s₀ reach d s = (s ≤ l) × (s < l → Reach n l s z reach) × Keeps (PlanOf p) n d₀ d
+Inv-loop z r most p n l resource a used reach₀ d₀ s₀ reach d s = (s ≤ l) × (s < l → Reach n l s z reach) × Keeps (PlanOf p) n d₀ d
 
 abbrev μ-loop : tie.MeasureT-loop
-μ-loop p z r n l resource used reach₀ d₀ s₀ reach d s = l - s
+μ-loop z r most p n l resource a used reach₀ d₀ s₀ reach d s = l - s
 
--- src/lib.rt:299:9
+mul-a : tie.Need-mul-a Inv-loop μ-loop
+mul-a c = search needs
+
+element-copy-out-a : tie.Need-element-copy-out-a Inv-loop μ-loop
+element-copy-out-a c = search needs
+
 used-slots-requires : tie.Need-used-slots-requires Inv-loop μ-loop
 used-slots-requires c κs = search needs
 
--- src/lib.rt:300:9
 reach-zero-requires : tie.Need-reach-zero-requires Inv-loop μ-loop
 reach-zero-requires c κs = search needs
 
--- src/lib.rt:303:5
 loop-holds : tie.Need-loop-holds Inv-loop μ-loop
 loop-holds c = search needs
 
--- src/lib.rt:304:13
+array-read-if1 : tie.Need-array-read-if1 Inv-loop μ-loop
+array-read-if1 c = search needs
+
 bars-requires : tie.Need-bars-requires Inv-loop μ-loop
-bars-requires c κs = search needs
+bars-requires c κs = let s = c .before .before .before .before .before .before .before in (s .pre .0 .ops-ok, s .pre .0 .interval-max, c .before .loop-test .taken, s .pre .0 .instances-ok (s .args .r) (s .pre .1))
 
--- src/lib.rt:306:13
 returns : tie.Need-returns Inv-loop μ-loop
-returns c = keeps-empty (PlanOf (c .before .before .before .before .before .before .before .args .p)) _ (replicate 24 (replicate 128 false)) (λ i h t k. empty-row i t (omega (arith, c .before .before .before .before .before .before .before .pre .0 .ops-ok)) k) (bars-none (c .before .before .before .before .before .before .before .args .p) (c .before .before .before .before .before .before .before .pre .0) (c .before .before .before .before .before .before .before .args .r) (c .before .before .before .loop .s) (c .before .before .before .before .before .before .before .pre .3) (c .before .before .before .before .before .used-slots .ensures) (c .before .before .before .loop .inv .1 (c .before .before .loop-test .taken)) (c .before .bars .ensures) (c .if1 .taken))
+returns c = let s = c .before .before .before .before .before .before .before .before .before in let l = c .before .before .before .before .loop in keeps-empty (PlanOf (s .args .t1)) _ (replicate 24 (replicate 128 false)) (λ i h t k. empty-row i t (omega (arith, s .pre .0 .ops-ok)) k) (bars-none (s .args .t1) (s .pre .0) (s .args .r) (l .s) (s .pre .2) (s .pre .3) (c .before .before .before .before .before .before .used-slots .ensures) (l .inv .1 (c .before .before .before .loop-test .taken)) (c .before .bars .ensures) (c .if2 .taken))
 
--- src/lib.rt:309:13
 drained-requires : tie.Need-drained-requires Inv-loop μ-loop
-drained-requires c κs = search needs
+drained-requires c κs = let s = c .before .before .before .before .before .before .before .before .before .before .before in (s .pre .0 .ops-ok, c .before .before .before .before .before .loop-test .taken, s .pre .0 .interval-max)
 
--- src/lib.rt:311:13
 stepped-requires : tie.Need-stepped-requires Inv-loop μ-loop
-stepped-requires c κs = let s = c .before .before .before .before .before .before .before .before .before in let h = c .before .before .before .before .loop-test .taken in (s .pre .0 .ops-ok, h, s .pre .0 .interval-max, c .before .before .before .before .before .loop .inv .1 h)
+stepped-requires c κs = let s = c .before .before .before .before .before .before .before in let h = c .before .loop-test .taken in (s .pre .0 .ops-ok, h, s .pre .0 .interval-max, c .before .before .loop .inv .1 h)
 
--- src/lib.rt:313:9
 add-s : tie.Need-add-s Inv-loop μ-loop
 add-s c = search needs
 
--- src/lib.rt:303:5
 loop-less : tie.Need-loop-less Inv-loop μ-loop
 loop-less c = search needs
 
--- src/lib.rt:303:5
 loop-again : tie.Need-loop-again Inv-loop μ-loop
-loop-again c = (omega (arith, c .before .before .before .before .before .loop-test .taken), c .stepped .ensures, bars-keep (c .before .before .before .before .before .before .before .before .before .before .args .p) (c .before .before .before .before .before .before .before .before .before .before .pre .0) (c .before .before .before .before .before .before .before .before .before .before .args .r) (c .before .before .before .before .before .before .loop .s) (c .before .before .before .before .before .before .before .before .before .before .pre .3) (c .before .before .before .before .before .before .before .before .used-slots .ensures) (c .before .before .before .before .before .before .loop .inv .1 (c .before .before .before .before .before .loop-test .taken)) (c .before .before .before .before .bars .ensures) (c .before .before .before .before .before .before .loop .inv .2) (c .before .drained .ensures))
+loop-again c = let s = c .before .before .before .before .before .before .before .before in let l = c .before .before .before .loop in
+    (omega (arith, c .before .before .loop-test .taken), c .stepped .ensures,
+      ⊎-elim (λ w. rw (w .6) (bars-keep (s .args .t1) (s .pre .0) (s .args .r) (l .s) (s .pre .2) (s .pre .3) (c .before .before .before .before .before .used-slots .ensures) (l .inv .1 (c .before .before .loop-test .taken)) (w .1 .ensures) (l .inv .2) (w .5 .ensures)))
+      (λ v. ⊎-elim (λ w. rw (w .4) (l .inv .2)) (λ w. rw (w .1) (l .inv .2)) v) (c .before .if1 .came))
 
--- src/lib.rt:292:1
 returns-2 : tie.Need-returns-2 Inv-loop μ-loop
 returns-2 c = search needs
 
@@ -65,9 +69,12 @@ type-windows-spec =
     (tie.spec
     Inv-loop
     μ-loop
+    mul-a
+    element-copy-out-a
     used-slots-requires
     reach-zero-requires
     loop-holds
+    array-read-if1
     bars-requires
     returns
     drained-requires

@@ -1,4 +1,7 @@
-use Prim.Native.Nat.{_≤_, _-_}
+-- `windows::windows` loses no plan: rule 2 for one type does not.
+-- From `keeps-self` and `keeps-trans`, whichever types are looked at.
+use mathlib.Core.Logic.{⊎-elim}
+use Prim.Native.Nat.{_-_, _≤_}
 use native.Mathlib.Omega.{arith}
 use borrow.Author.Needs.{needs}
 use Rattle.domain.specs.Domain.{Keeps}
@@ -8,32 +11,30 @@ use Rattle.windows.proofs.windows.Statement.{statement}
 use Rattle.windows.proofs.windows.Tie as tie
 
 abbrev Inv-loop : tie.InvT-loop
-Inv-loop p d₀ r₀ d r = (r ≤ 8) × Keeps (PlanOf p) (p .ops) d₀ d
+Inv-loop p changed resource d₀ r₀ d r = (r ≤ 8) × Keeps (PlanOf p) (p .ops) d₀ d
 
 abbrev μ-loop : tie.MeasureT-loop
-μ-loop p d₀ r₀ d r = 8 - r
+μ-loop p changed resource d₀ r₀ d r = 8 - r
 
--- src/lib.rt:337:5
 loop-holds : tie.Need-loop-holds Inv-loop μ-loop
-loop-holds c = (omega arith, keeps-self (PlanOf (c .args .p)) _ _)
+loop-holds c = (omega arith, keeps-self (PlanOf (c .before .args .p)) _ _)
 
--- src/lib.rt:338:13
+changed-in-requires : tie.Need-changed-in-requires Inv-loop μ-loop
+changed-in-requires c κs = search needs
+
 limited-windows-requires : tie.Need-limited-windows-requires Inv-loop μ-loop
 limited-windows-requires c κs = search needs
 
--- src/lib.rt:340:9
 add-r : tie.Need-add-r Inv-loop μ-loop
 add-r c = search needs
 
--- src/lib.rt:337:5
 loop-less : tie.Need-loop-less Inv-loop μ-loop
 loop-less c = search needs
 
--- src/lib.rt:337:5
 loop-again : tie.Need-loop-again Inv-loop μ-loop
-loop-again c = (omega arith, keeps-trans (PlanOf (c .before .before .before .args .p)) _ (c .before .before .loop .inv .1) (c .limited-windows .ensures))
+loop-again c = let s = c .before .before .before .before .before in let l = c .before .before .before .loop in
+    (omega arith, ⊎-elim (λ w. rw (w .2) (keeps-trans (PlanOf (s .args .p)) _ (l .inv .1) (w .1 .ensures))) (λ w. rw (w .1) (l .inv .1)) (c .if1 .came))
 
--- src/lib.rt:331:1
 returns : tie.Need-returns Inv-loop μ-loop
 returns c = search needs
 
@@ -44,6 +45,7 @@ windows-spec =
     Inv-loop
     μ-loop
     loop-holds
+    changed-in-requires
     limited-windows-requires
     add-r
     loop-less

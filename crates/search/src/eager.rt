@@ -1,0 +1,76 @@
+// The first plan where it is easy: each operation in turn at its least start, with the domain narrowed after each.
+// What comes out, if it is a plan, is the first one; else the search has to decide.
+ghost use mathlib.Core.Path.{_≡_};
+ghost use mathlib.Core.Bool.{true, false};
+ghost use Prim.Native.Nat.{ℕ, _+_, _≤_, _<_};
+ghost use Rattle.domain.specs.Domain.{Keeps};
+ghost use Rattle.domain.specs.First.{Held, Tried};
+ghost use Rattle.task.specs.Plan.{Ready, PlanOf};
+use crate::First;
+use crate::choose::single;
+use crate::look::first_bare;
+use crate::look::least_starts;
+use task::Task;
+
+// The domain narrowed after its row of i changed, if it did.
+fn narrowed(p: Task, d: [[bool; 128]; 24], i: usize, changed: bool) -> [[bool; 128]; 24]
+    requires { ⌜ Ready p × (i < p .ops) ⌝ }
+    ensures { λ r. ⌜ Keeps (PlanOf p) (p .ops) d r ⌝ }
+{
+    if changed {
+        return narrow::narrow(p, d, single(i));
+    }
+    d
+}
+
+fn no_answer() -> First
+    ensures { λ r. ⌜ r .yes ≡ false ⌝ }
+{
+    First {
+        yes: false,
+        starts: [0; 24],
+    }
+}
+
+// The least starts of the domain, if they are a plan.
+fn least_plan(p: Task, d: [[bool; 128]; 24]) -> First
+    requires { ⌜ Ready p ⌝ }
+    ensures { λ r. ⌜ Held (PlanOf p) (p .ops) d (r .yes) (r .starts) ⌝ }
+{
+    let n = p.ops;
+    let x = least_starts(d, n);
+    let b = first_bare(x, n);
+    if b < n {
+        return no_answer();
+    }
+    if task::is_plan(p, x) {
+        return First {
+            yes: true,
+            starts: x,
+        };
+    }
+    no_answer()
+}
+
+// The first plan in the domain, or no answer.
+pub fn eager(p: Task, ok: [[bool; 128]; 24]) -> First
+    requires { ⌜ Ready p ⌝ }
+    ensures { λ r. ⌜ Tried (PlanOf p) (p .ops) ok (r .yes) (r .starts) ⌝ }
+{
+    let n = p.ops;
+    let mut d = narrow::narrow(p, ok, [true; 24]);
+    let mut i: usize = 0;
+    while i < n {
+        let x = least_starts(d, n);
+        let b = first_bare(x, n);
+        if b < n {
+            return no_answer();
+        }
+        let several = domain::other_class(d[i], x[i], 128);
+        d[i] = domain::only(x[i]);
+        let e = narrowed(p, d, i, several);
+        d = e;
+        i += 1;
+    }
+    least_plan(p, d)
+}
