@@ -94,7 +94,13 @@ fn altered(look: bool, a: [bool; 128], b: [bool; 128]) -> bool {
 }
 
 // Which rows the step at i changed from d to e.
-fn changes(near: [bool; 576], d: [[bool; 128]; 24], e: [[bool; 128]; 24], i: usize, n: usize) -> [bool; 24]
+fn changes(
+    near: [bool; 576],
+    d: [[bool; 128]; 24],
+    e: [[bool; 128]; 24],
+    i: usize,
+    n: usize,
+) -> [bool; 24]
     requires { ⌜ n ≤ 24 ⌝ }
 {
     let mut out = [false; 24];

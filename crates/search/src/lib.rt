@@ -7,9 +7,11 @@ ghost use Prim.Native.Nat.{ℕ, _+_, _≤_, _<_};
 ghost use Rattle.domain.specs.Domain.{val, Solved, FirstIn};
 ghost use Rattle.domain.specs.First.{Good, Lowered};
 ghost use Rattle.task.specs.Plan.{Ready, PlanOf};
+
 mod choose;
 mod eager;
 mod look;
+
 use choose::blamed;
 use choose::single;
 use eager::eager;

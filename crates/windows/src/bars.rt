@@ -78,7 +78,15 @@ fn raise(full: bool, same: bool, bar: usize, reach: usize, w: usize) -> usize
 }
 
 // The bars after the window of w slots, where it is full.
-fn raised(full: bool, bar: [usize; 24], resource: [usize; 24], reach: [usize; 24], n: usize, r: usize, w: usize) -> [usize; 24]
+fn raised(
+    full: bool,
+    bar: [usize; 24],
+    resource: [usize; 24],
+    reach: [usize; 24],
+    n: usize,
+    r: usize,
+    w: usize,
+) -> [usize; 24]
     requires { ⌜ n ≤ 24 ⌝ }
     ensures { λ out. ⌜ Raised n full bar (val resource) reach r w out ⌝ }
 {
@@ -103,11 +111,25 @@ fn worth(cap: usize, seem: u32, most: u32) -> bool {
     if cap < seem as usize {
         return true;
     }
-    if seem < most { cap == seem as usize } else { false }
+    if seem < most {
+        cap == seem as usize
+    } else {
+        false
+    }
 }
 
 // The windows from slot s on, for the `most` operations of type r with a instances.
-pub fn bars(resource: [usize; 24], n: usize, l: usize, a: usize, most: u32, used: [bool; 64], reach: [usize; 24], r: usize, s: usize) -> Barrier
+pub fn bars(
+    resource: [usize; 24],
+    n: usize,
+    l: usize,
+    a: usize,
+    most: u32,
+    used: [bool; 64],
+    reach: [usize; 24],
+    r: usize,
+    s: usize,
+) -> Barrier
     requires { ⌜ (n ≤ 24) × (l ≤ 64) × (s < l) × (a ≤ 8) ⌝ }
     ensures { λ b. ⌜ Barred n (val resource) l a r s used reach (b .fail) (b .bar) ⌝ }
 {
@@ -124,17 +146,29 @@ pub fn bars(resource: [usize; 24], n: usize, l: usize, a: usize, most: u32, used
         w += 1;
         seem = std::num::wrapping_add_u32(seem, counts[w]);
         if (most as usize) < cap {
-            return Barrier { fail: false, some, bar };
+            return Barrier {
+                fail: false,
+                some,
+                bar,
+            };
         }
         if worth(cap, seem, most) {
             let c = inside(resource, reach, n, r, w);
             if cap < c {
-                return Barrier { fail: true, some, bar };
+                return Barrier {
+                    fail: true,
+                    some,
+                    bar,
+                };
             }
             let up = raised(c == cap, bar, resource, reach, n, r, w);
             bar = up;
             some = true;
         }
     }
-    Barrier { fail: false, some, bar }
+    Barrier {
+        fail: false,
+        some,
+        bar,
+    }
 }

@@ -5,9 +5,11 @@ ghost use Prim.Native.Nat.{ℕ, _+_, _≤_, _<_};
 ghost use Rattle.domain.specs.Domain.{Keeps};
 ghost use Rattle.task.specs.Plan.{TaskOk, PlanOf, instancesOf, typeOf};
 ghost use Rattle.windows.specs.Window.{Slotted};
+
 mod bars;
 mod slots;
 mod trims;
+
 use bars::bars;
 use bars::one_if;
 use slots::reach_zero;
@@ -18,7 +20,13 @@ use task::Task;
 use trims::drained;
 
 // Rule 2 for type r, which `most` operations have.
-fn type_windows(p: Task, ok: [[bool; 128]; 24], z: [[bool; 64]; 24], r: usize, most: u32) -> [[bool; 128]; 24]
+fn type_windows(
+    p: Task,
+    ok: [[bool; 128]; 24],
+    z: [[bool; 64]; 24],
+    r: usize,
+    most: u32,
+) -> [[bool; 128]; 24]
     requires { ⌜ TaskOk p × (r < 8) × (0 < instancesOf p r) × Slotted (p .ops) (p .interval) (typeOf p) r ok z ⌝ }
     ensures { λ d. ⌜ Keeps (PlanOf p) (p .ops) ok d ⌝ }
 {

@@ -62,7 +62,13 @@ fn slot_row_if(same: bool, row: [bool; 128], l: usize) -> [bool; 64]
 }
 
 // The slots of the starts of each operation of type r.
-pub fn slot_rows(ok: [[bool; 128]; 24], resource: [usize; 24], n: usize, l: usize, r: usize) -> [[bool; 64]; 24]
+pub fn slot_rows(
+    ok: [[bool; 128]; 24],
+    resource: [usize; 24],
+    n: usize,
+    l: usize,
+    r: usize,
+) -> [[bool; 64]; 24]
     requires { ⌜ (n ≤ 24) × (0 < l) × (l ≤ 64) ⌝ }
     ensures { λ z. ⌜ Slotted n l (val resource) r ok z ⌝ }
 {

@@ -56,7 +56,16 @@ fn trim(cut: bool, row: [bool; 128], bar: usize, s: usize, l: usize) -> [bool; 1
 }
 
 // The domain without the starts that the bars rule out.
-pub fn drained(d: [[bool; 128]; 24], z: [[bool; 64]; 24], resource: [usize; 24], bar: [usize; 24], n: usize, r: usize, s: usize, l: usize) -> [[bool; 128]; 24]
+pub fn drained(
+    d: [[bool; 128]; 24],
+    z: [[bool; 64]; 24],
+    resource: [usize; 24],
+    bar: [usize; 24],
+    n: usize,
+    r: usize,
+    s: usize,
+    l: usize,
+) -> [[bool; 128]; 24]
     requires { ⌜ (n ≤ 24) × (s < l) × (l ≤ 64) ⌝ }
     ensures { λ out. ⌜ Drained n (val resource) r s l bar d out ⌝ }
 {

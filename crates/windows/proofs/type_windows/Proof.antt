@@ -8,7 +8,8 @@ use lib.ListN.{replicate}
 use borrow.Author.Needs.{needs}
 use Rattle.domain.specs.Domain.{Keeps}
 use Rattle.task.specs.Plan.{PlanOf}
-use Rattle.windows.specs.Window.{empty-row, Reach, bars-none, bars-keep, keeps-empty}
+use Rattle.windows.specs.TrimLaws.{empty-row, bars-none, bars-keep, keeps-empty}
+use Rattle.windows.specs.Window.{Reach}
 use Rattle.windows.proofs.type_windows.Statement.{statement}
 use Rattle.windows.proofs.type_windows.Tie as tie
 
@@ -55,10 +56,12 @@ loop-less : tie.Need-loop-less Inv-loop μ-loop
 loop-less c = search needs
 
 loop-again : tie.Need-loop-again Inv-loop μ-loop
-loop-again c = let s = c .before .before .before .before .before .before .before .before in let l = c .before .before .before .loop in
-    (omega (arith, c .before .before .loop-test .taken), c .stepped .ensures,
-      ⊎-elim (λ w. rw (w .6) (bars-keep (s .args .t1) (s .pre .0) (s .args .r) (l .s) (s .pre .2) (s .pre .3) (c .before .before .before .before .before .used-slots .ensures) (l .inv .1 (c .before .before .loop-test .taken)) (w .1 .ensures) (l .inv .2) (w .5 .ensures)))
-      (λ v. ⊎-elim (λ w. rw (w .4) (l .inv .2)) (λ w. rw (w .1) (l .inv .2)) v) (c .before .if1 .came))
+loop-again c = let s = c .before .before .before .before .before .before .before .before in let l = c .before .before .before .loop in (
+  omega (arith, c .before .before .loop-test .taken),
+  c .stepped .ensures,
+  ⊎-elim (λ w. rw (w .6) (bars-keep (s .args .t1) (s .pre .0) (s .args .r) (l .s) (s .pre .2) (s .pre .3) (c .before .before .before .before .before .used-slots .ensures) (l .inv .1 (c .before .before .loop-test .taken)) (w .1 .ensures) (l .inv .2) (w .5 .ensures)))
+      (λ v. ⊎-elim (λ w. rw (w .4) (l .inv .2)) (λ w. rw (w .1) (l .inv .2)) v) (c .before .if1 .came),
+)
 
 returns-2 : tie.Need-returns-2 Inv-loop μ-loop
 returns-2 c = search needs

@@ -76,10 +76,13 @@ loop-less : tie.Need-loop-less Inv-loop μ-loop
 loop-less c = search needs
 
 loop-again : tie.Need-loop-again Inv-loop μ-loop
-loop-again c = let s = c .before .before .before .before .before .before .before .before .before .before in let l = c .before .before .before .before .before .before .before .before .loop in let h = c .before .before .before .before .before .before .before .loop-test .taken in let w = c .before .before .before .before .before .first-bare .ensures in
-    (omega (arith, h), search needs, ahead-keeps (PlanOf (s .args .p)) _ (omega (arith, h))
+loop-again c = let s = c .before .before .before .before .before .before .before .before .before .before in let l = c .before .before .before .before .before .before .before .before .loop in let h = c .before .before .before .before .before .before .before .loop-test .taken in let w = c .before .before .before .before .before .first-bare .ensures in (
+  omega (arith, h),
+  search needs,
+  ahead-keeps (PlanOf (s .args .p)) _ (omega (arith, h))
       (ahead-pin (PlanOf (s .args .p)) _ (omega (arith, l .inv .1, h, s .pre .task .ops-ok)) h (l .inv .2) (c .before .before .before .before .before .before .least-starts .ensures .least (l .i) h) (w .before (l .i) (omega (arith, w .within, c .before .before .before .before .if1 .left, h))) (c .before .only .ensures))
-      (c .narrowed .ensures))
+      (c .narrowed .ensures),
+)
 
 least-plan-requires : tie.Need-least-plan-requires Inv-loop μ-loop
 least-plan-requires c κs = search needs

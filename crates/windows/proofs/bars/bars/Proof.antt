@@ -6,7 +6,7 @@ use lib.ListN.{getD-replicate}
 use borrow.Author.Needs.{needs}
 use borrow.Author.Tests.{eqb-true}
 use Rattle.domain.specs.Domain.{val}
-use Rattle.windows.specs.Window.{more-small, more-at, Caps, caps-start, caps-next, caps-over, caps-full, caps-done}
+use Rattle.windows.specs.BarLaws.{more-small, more-at, Caps, caps-start, caps-next, caps-over, caps-full, caps-done}
 use Rattle.windows.proofs.bars.bars.Statement.{statement}
 use Rattle.windows.proofs.bars.bars.Tie as tie
 

@@ -8,7 +8,8 @@ use lib.Dec.{eqb}
 use borrow.Author.Needs.{needs}
 use Rattle.laws.specs.Store.{store-more}
 use Rattle.domain.specs.Domain.{val}
-use Rattle.windows.specs.Window.{RaiseOne, raised-all}
+use Rattle.windows.specs.Window.{RaiseOne}
+use Rattle.windows.specs.BarLaws.{raised-all}
 use Rattle.windows.proofs.bars.raised.Statement.{statement}
 use Rattle.windows.proofs.bars.raised.Tie as tie
 

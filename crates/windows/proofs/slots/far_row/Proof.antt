@@ -6,7 +6,7 @@ use Prim.Native.Nat.{ℕ, _≤_, _<_, _-_}
 use native.Mathlib.Omega.{arith}
 use borrow.Author.Needs.{needs}
 use Rattle.domain.specs.Domain.{has}
-use Rattle.windows.specs.Window.{far-more}
+use Rattle.windows.specs.SlotLaws.{far-more}
 use Rattle.windows.proofs.slots.far_row.Statement.{statement}
 use Rattle.windows.proofs.slots.far_row.Tie as tie
 

@@ -7,7 +7,8 @@ use lib.ListN.{length, length-set}
 use borrow.Author.Needs.{needs}
 use Rattle.laws.specs.Store.{store-more}
 use Rattle.domain.specs.Domain.{rowOf, val}
-use Rattle.windows.specs.Window.{FarRow, off-zero}
+use Rattle.windows.specs.Window.{FarRow}
+use Rattle.windows.specs.SlotLaws.{off-zero}
 use Rattle.windows.proofs.slots.reach_zero.Statement.{statement}
 use Rattle.windows.proofs.slots.reach_zero.Tie as tie
 

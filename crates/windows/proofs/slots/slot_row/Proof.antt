@@ -8,7 +8,7 @@ use native.Mathlib.Nat.{mod-eq-of-lt}
 use lib.ListN.{length, length-set}
 use borrow.Author.Needs.{needs}
 use Rattle.domain.specs.Domain.{has}
-use Rattle.windows.specs.Window.{slot-more}
+use Rattle.windows.specs.SlotLaws.{slot-more}
 use Rattle.windows.proofs.slots.slot_row.Statement.{statement}
 use Rattle.windows.proofs.slots.slot_row.Tie as tie
 

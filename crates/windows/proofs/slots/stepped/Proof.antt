@@ -7,7 +7,8 @@ use lib.ListN.{length, length-set}
 use borrow.Author.Needs.{needs}
 use Rattle.laws.specs.Store.{store-more}
 use Rattle.domain.specs.Domain.{has, rowOf, val}
-use Rattle.windows.specs.Window.{StepOne, reach-step}
+use Rattle.windows.specs.Window.{StepOne}
+use Rattle.windows.specs.SlotLaws.{reach-step}
 use Rattle.windows.proofs.slots.stepped.Statement.{statement}
 use Rattle.windows.proofs.slots.stepped.Tie as tie
 

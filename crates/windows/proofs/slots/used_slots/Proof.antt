@@ -6,7 +6,7 @@ use Prim.Native.Nat.{ℕ, _≤_, _<_, _-_}
 use native.Mathlib.Omega.{arith}
 use borrow.Author.Needs.{needs}
 use Rattle.domain.specs.Domain.{has, rowOf, val}
-use Rattle.windows.specs.Window.{used-more}
+use Rattle.windows.specs.SlotLaws.{used-more}
 use Rattle.windows.proofs.slots.used_slots.Statement.{statement}
 use Rattle.windows.proofs.slots.used_slots.Tie as tie
 

@@ -9,7 +9,8 @@ use lib.Dec.{eqb}
 use borrow.Author.Needs.{needs}
 use Rattle.laws.specs.Store.{store-more}
 use Rattle.domain.specs.Domain.{rowOf, val}
-use Rattle.windows.specs.Window.{Trimmed, drained-all, trimmed-when}
+use Rattle.windows.specs.Window.{Trimmed}
+use Rattle.windows.specs.TrimLaws.{drained-all, trimmed-when}
 use Rattle.windows.proofs.trims.drained.Statement.{statement}
 use Rattle.windows.proofs.trims.drained.Tie as tie
 

@@ -9,7 +9,8 @@ use lib.ListN.{length, length-set}
 use borrow.Author.Needs.{needs}
 use Rattle.laws.specs.Store.{store-more}
 use Rattle.domain.specs.Domain.{has}
-use Rattle.windows.specs.Window.{past-at, Past, off}
+use Rattle.windows.specs.TrimLaws.{past-at}
+use Rattle.windows.specs.Window.{Past, off}
 use Rattle.windows.proofs.trims.trim.Statement.{statement}
 use Rattle.windows.proofs.trims.trim.Tie as tie
 
@@ -44,10 +45,14 @@ loop-less : tie.Need-loop-less Inv-loop μ-loop
 loop-less c = search needs
 
 loop-again : tie.Need-loop-again Inv-loop μ-loop
-loop-again c = let l = c .before .before .before .before .loop in let a = c .before .before .before .before .before .before .args in let n = c .next-class .ensures in
-    (omega arith, simp length-set (l .inv .1), n .next (l .t) (l .inv .2), n .within,
-      store-more (λ k z. Past (has (a .t2) k) (off (a .l) (a .s) (k % a .l)) (a .bar) z) (l .out) (l .t) _ false (omega (arith, l .inv .1))
-      (past-at (c .before .before .offset .ensures ∙ ap (λ (b : ℕ). off (a .l) (a .s) b) (sym (l .inv .2))) (c .before .past .ensures)) (l .inv .4))
+loop-again c = let l = c .before .before .before .before .loop in let a = c .before .before .before .before .before .before .args in let n = c .next-class .ensures in (
+  omega arith,
+  simp length-set (l .inv .1),
+  n .next (l .t) (l .inv .2),
+  n .within,
+  store-more (λ k z. Past (has (a .t2) k) (off (a .l) (a .s) (k % a .l)) (a .bar) z) (l .out) (l .t) _ false (omega (arith, l .inv .1))
+      (past-at (c .before .before .offset .ensures ∙ ap (λ (b : ℕ). off (a .l) (a .s) b) (sym (l .inv .2))) (c .before .past .ensures)) (l .inv .4),
+)
 
 returns : tie.Need-returns Inv-loop μ-loop
 returns c = let l = c .before .loop in record { was = record { part = λ t h y. l .inv .4 t (omega arith) .yes y }; stays = λ t h y f. l .inv .4 t (omega arith) .back y (f (c .before .before .if1 .taken)) }
