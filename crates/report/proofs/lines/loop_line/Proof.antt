@@ -1,0 +1,80 @@
+-- `report::lines::loop_line` meets its contract. The invariant: the values passed are the edges' numbers.
+-- From the law of a list that is another one, number by number.
+use Prim.Native.Nat.{ℕ, _-_, _≤_, _<_}
+use mathlib.Core.Path.{_≡_, refl, _∙_}
+use lib.IntN.{pos}
+use lib.ListN.{length, getD, length-set}
+use Rattle.laws.specs.Z.{kept, fits32}
+use Rattle.laws.specs.Store.{store-more}
+use Rattle.text.specs.Line.{keyOf}
+use Rattle.report.specs.Places.{loop-text}
+use native.Mathlib.Omega.{arith}
+use borrow.Author.Needs.{needs}
+use Rattle.report.proofs.lines.loop_line.Statement.{statement}
+use Rattle.report.proofs.lines.loop_line.Tie as tie
+
+abbrev Inv-loop : tie.InvT-loop
+Inv-loop count edges values₀ i₀ values i =
+    (i ≤ 24) × (length values ≡ 24) × ((k : ℕ) → k < i → getD values k (pos 0) ≡ pos (getD edges k 0))
+
+abbrev μ-loop : tie.MeasureT-loop
+μ-loop count edges values₀ i₀ values i = 24 - i
+
+loop-holds : tie.Need-loop-holds Inv-loop μ-loop
+loop-holds c = (omega arith, refl, λ k h. absurd (omega arith))
+
+mul-number : tie.Need-mul-number Inv-loop μ-loop
+mul-number c = omega arith
+
+array-read-number : tie.Need-array-read-number Inv-loop μ-loop
+array-read-number c = omega arith
+
+number-requires : tie.Need-number-requires Inv-loop μ-loop
+number-requires c κs = c .before .before .pre (c .before .loop .i)
+
+mul-values : tie.Need-mul-values Inv-loop μ-loop
+mul-values c = omega arith
+
+array-set-from-values : tie.Need-array-set-from-values Inv-loop μ-loop
+array-set-from-values c = omega arith
+
+add-i : tie.Need-add-i Inv-loop μ-loop
+add-i c = omega arith
+
+loop-less : tie.Need-loop-less Inv-loop μ-loop
+loop-less c = omega arith
+
+loop-again : tie.Need-loop-again Inv-loop μ-loop
+loop-again c =
+    let l = c .before .before .loop in
+    let a = c .before .before .before .args .t1 in
+    let n = c .number in (
+      omega arith,
+      length-set (l .values) (l .i) _ ∙ l .inv .1,
+      store-more (λ k z. z ≡ pos (getD a k 0)) (l .values) (l .i) _ (pos 0) (omega arith) (kept (fits32 (n .ok)) ∙ n .ensures) (l .inv .2),
+    )
+
+returns : tie.Need-returns Inv-loop μ-loop
+unfolding keyOf
+returns c =
+    let l = c .before .loop in
+    let a = c .before .before .args in
+    let n : length (a .t1) ≡ 24 = search needs in
+    loop-text (a .count) (a .t1) (l .values) n (l .inv .1) (λ k h. l .inv .2 k (omega arith))
+
+pub loop-line-spec : {M : Type 1} → statement M
+loop-line-spec =
+    tie.close
+    (tie.spec
+    Inv-loop
+    μ-loop
+    loop-holds
+    mul-number
+    array-read-number
+    number-requires
+    mul-values
+    array-set-from-values
+    add-i
+    loop-less
+    loop-again
+    returns)

@@ -1,0 +1,71 @@
+-- `report::print` meets its contract: the refusals of reading, and then what is told of the sheet.
+-- From what `read`, `put_answer` and `tell` ensure, and the bound of a reading's refusal.
+use Prim.Native.Nat.{ℕ}
+use mathlib.Core.Path.{_≡_, sym, ap, subst, _∙_}
+use mathlib.Core.List.{[], _∷_}
+use Rattle.sheet.specs.declared.Sheet.{Sheet}
+use Rattle.reader.specs.declared.ReadAnswer.{ReadAnswer}
+use Rattle.reader.specs.Read.{readOf}
+use Rattle.report.specs.Print.{answerLine, Told, Printed, refused, read}
+use Rattle.report.specs.Bounds.{answer-bound}
+use Rattle.report.specs.Reading.{read-small}
+use Rattle.report.specs.Printing.{Put, weaken}
+use native.Mathlib.Omega.{arith}
+use borrow.Author.Needs.{needs}
+use Rattle.report.proofs.print.Statement.{statement}
+use Rattle.report.proofs.print.Tie as tie
+
+read-requires : tie.Need-read-requires
+read-requires c κs = search needs
+
+put-answer-requires : tie.Need-put-answer-requires
+put-answer-requires c κs =
+    let e = ap (λ (x : ReadAnswer). x .answer) (c .before .before .read .ensures) in
+    let h = read-small (c .before .before .before .before .before .args .bytes .now) in
+    (omega arith, omega arith)
+
+same-length : tie.Need-same-length
+same-length c = search needs
+
+returns : tie.Need-returns
+returns c =
+    let bs = c .before .before .before .before .before .before .before .before .args .bytes .now in
+    let r = c .before .before .before .before .before .read in
+    let e : r .result .answer ≡ readOf bs .answer = ap (λ (x : ReadAnswer). x .answer) (r .ensures) in
+    let h = read-small bs in
+    let f = c .before .before .put-answer .ensures in
+    let b = answer-bound (r .result .answer) (omega arith) in
+    let q = f .0 in
+    let m = c .before .before .before .before .before .before .before .before .pre in
+    record {
+      lines = answerLine (r .result .answer) ∷ [];
+      holds = subst (λ (n : ℕ). Printed bs (answerLine n ∷ [])) (sym e) (refused (λ z. c .before .before .before .before .if1 .taken (e ∙ z)));
+      place = f .0;
+      buffer = f .1;
+      fits = omega arith;
+    }
+
+tell-requires : tie.Need-tell-requires
+tell-requires c κs = c .before .before .before .before .before .before .pre
+
+same-length-2 : tie.Need-same-length-2
+same-length-2 c = search needs
+
+returns-2 : tie.Need-returns-2
+returns-2 c =
+    let r = c .before .before .before .before .before .before .read in
+    let e = ap (λ (x : ReadAnswer). x .answer) (r .ensures) in
+    let g = ap (λ (x : ReadAnswer). x .sheet) (r .ensures) in
+    weaken (λ ls t. read (sym e ∙ c .before .before .before .before .before .if1 .left) (subst (λ (s : Sheet). Told s ls) g t)) (c .before .before .tell .ensures)
+
+pub print-spec : {M : Type 1} → statement M
+print-spec =
+    tie.close
+    (tie.spec
+    read-requires
+    put-answer-requires
+    same-length
+    returns
+    tell-requires
+    same-length-2
+    returns-2)

@@ -1,0 +1,63 @@
+-- What leastplan prints: the lines of one interval, and of a whole run.
+use Prim.Native.Nat.{ℕ, zero, suc, _<_, _≤_}
+use mathlib.Core.Path.{_≡_}
+use mathlib.Core.Bool.{cond}
+use mathlib.Core.List.{List, [], _∷_, _++_, map}
+use lib.Dec.{eqb}
+use lib.ListN.{take}
+use lib.IntN.{pos}
+use Rattle.text.specs.Keys as key
+use Rattle.sheet.specs.declared.Sheet.{Sheet}
+use Rattle.sheet.specs.Sheet.{InRange}
+use Rattle.sheet.specs.Text.{Line, countLine}
+use Rattle.reader.specs.Read.{readOf}
+use Rattle.plan.specs.declared.PlanAnswer.{PlanAnswer}
+use Rattle.plan.specs.Answers.{column, PlanAt}
+
+-- `answer=` with 0 or the refusal
+abbrev pub answerLine : ℕ → Line
+answerLine n = countLine key.answerKey n
+
+-- `interval=`
+abbrev pub intervalLine : ℕ → Line
+intervalLine L = countLine key.intervalKey L
+
+-- `loop=` with edge numbers
+abbrev pub loopLine : List ℕ → Line
+loopLine ks = record { key = key.loopKey; values = map pos ks }
+
+-- `at=t,u`
+abbrev pub atLine : ℕ → ℕ → Line
+atLine t u = record { key = key.atKey; values = pos t ∷ pos u ∷ [] }
+
+-- one line for each of n operations
+unfoldable pub each : ℕ → (ℕ → Line) → List Line
+each zero f = []
+each (suc n) f = f 0 ∷ each n (λ i. f (suc i))
+
+-- for 5 the loop, for 0 one line per operation
+unfoldable pub detail : Sheet → PlanAnswer → List Line
+detail s a =
+    cond (eqb (a .answer) 0)
+    (each (s .«op_count») (λ i. atLine (column (a .starts) i) (column (a .instances) i)))
+    (cond (eqb (a .answer) 5) (loopLine (take (a .«loop_length») (a .«loop_edges»)) ∷ []) [])
+
+-- the lines of one interval
+unfoldable pub intervalLines : Sheet → ℕ → PlanAnswer → List Line
+intervalLines s L a = answerLine (a .answer) ∷ intervalLine L ∷ detail s a
+
+-- the lines of the intervals from L up: it stops after 0, and ends with 7 if none has a plan
+pub data Run (s : Sheet) : ℕ → List Line → Type 0 where
+  none : {L : ℕ} → s .cap < L → Run s L (answerLine 7 ∷ [])
+  stops : {L : ℕ} {a : PlanAnswer} → L ≤ s .cap → PlanAt s L a → a .answer ≡ 0 → Run s L (intervalLines s L a)
+  goes-on : {L : ℕ} {a : PlanAnswer} {ls : List Line} → L ≤ s .cap → PlanAt s L a → (a .answer ≡ 0 → ⊥) → Run s (suc L) ls → Run s L (intervalLines s L a ++ ls)
+
+-- a sheet handed over as numbers: question 3, and then its intervals from 1 up
+pub data Told (s : Sheet) : List Line → Type 0 where
+  out-of-range : (InRange s → ⊥) → Told s (answerLine 3 ∷ [])
+  told : InRange s → {ls : List Line} → Run s 1 ls → Told s ls
+
+-- the bytes of a sheet: a refused one prints its answer line only
+pub data Printed (bytes : List ℕ) : List Line → Type 0 where
+  refused : (readOf bytes .answer ≡ 0 → ⊥) → Printed bytes (answerLine (readOf bytes .answer) ∷ [])
+  read : readOf bytes .answer ≡ 0 → {ls : List Line} → Told (readOf bytes .sheet) ls → Printed bytes ls

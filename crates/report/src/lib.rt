@@ -1,0 +1,102 @@
+// The text of plans: the lines that leastplan prints for an interval, and all that it prints for the bytes of a sheet.
+ghost use mathlib.Core.Path.{_≡_};
+ghost use mathlib.Core.List.{[], _∷_};
+ghost use Prim.Native.Nat.{_≤_};
+ghost use lib.ListN.{length};
+ghost use Rattle.text.specs.Text.{over};
+ghost use Rattle.sheet.specs.Sheet.{InRange};
+ghost use Rattle.sheet.specs.Text.{linesText};
+ghost use Rattle.report.specs.Print.{answerLine, Run, Told, Printed};
+ghost use Rattle.report.specs.PlanText.{PlanText};
+ghost use Rattle.report.specs.Printing.{Put, Reported};
+use sheet::Sheet;
+use text::Written;
+
+mod lines; // lines.rt: the lines of one interval, by their places
+
+// Room for whatever leastplan prints.
+const ROOM: usize = 8192;
+
+// The plan's text at the front of `out` and its count of bytes; 3, 4, 5, 6, or 9 where the whole text does not fit, and then `out` stays as it was.
+pub fn plan_text(sheet: Sheet, interval: usize, out: &mut [u8]) -> Written
+    ensures { λ r. ⌜ PlanText sheet interval (now (out .entry)) r (now (out .exit)) ⌝ }
+{
+    let a = schedule::plan_at(sheet, interval);
+    if a.answer != 0 {
+        return Written {
+            answer: a.answer,
+            count: 0,
+        };
+    }
+    if out.len() < lines::text_length(sheet, interval, a) {
+        return Written {
+            answer: 9,
+            count: 0,
+        };
+    }
+    let count = lines::fill(out, sheet, interval, a);
+    Written { answer: 0, count }
+}
+
+// The line `answer=` alone, and how many bytes it has.
+fn put_answer(out: &mut [u8], answer: usize) -> usize
+    requires { ⌜ (answer ≤ 999) × (11 ≤ length (now out)) ⌝ }
+    ensures { λ r. ⌜ r ≡ length (linesText (answerLine answer ∷ [])) ⌝ }
+    ensures { λ r. ⌜ now (out .exit) ≡ over (linesText (answerLine answer ∷ [])) (now (out .entry)) ⌝ }
+{
+    text::put_line(out, lines::count_line(text::ANSWER, answer))
+}
+
+// The intervals from 1 up, until one has a plan.
+fn run(out: &mut [u8], sheet: Sheet) -> usize
+    requires { ⌜ InRange sheet × (8192 ≤ length (now out)) ⌝ }
+    ensures { λ r. ⌜ Put (Run sheet 1) (now (out .entry)) (now (out .exit)) r ⌝ }
+{
+    let cap = sheet.cap;
+    let mut at = 0;
+    let mut interval = 1;
+    while interval <= cap {
+        let a = schedule::plan_at(sheet, interval);
+        at += lines::fill(&mut out[at..], sheet, interval, a);
+        if a.answer == 0 {
+            return at;
+        }
+        interval += 1;
+    }
+    at + put_answer(&mut out[at..], 7)
+}
+
+// What leastplan prints for a sheet handed over as numbers.
+fn tell(out: &mut [u8], sheet: Sheet) -> usize
+    requires { ⌜ 8192 ≤ length (now out) ⌝ }
+    ensures { λ r. ⌜ Put (Told sheet) (now (out .entry)) (now (out .exit)) r ⌝ }
+{
+    if !sheet::in_range(sheet) {
+        return put_answer(out, 3);
+    }
+    run(out, sheet)
+}
+
+// What leastplan prints for the bytes of a sheet.
+fn print(out: &mut [u8], bytes: &[u8]) -> usize
+    requires { ⌜ 8192 ≤ length (now out) ⌝ }
+    ensures { λ r. ⌜ Put (Printed (now (bytes .entry))) (now (out .entry)) (now (out .exit)) r ⌝ }
+{
+    let read = reader::read(bytes);
+    let answer = read.answer;
+    if answer != 0 {
+        return put_answer(out, answer);
+    }
+    let sheet = read.sheet;
+    tell(out, sheet)
+}
+
+// All that leastplan prints, at the front of `out`, and its count of bytes; 9 where it does not fit, and then `out` stays as it was.
+// 8,192 bytes are always enough.
+pub fn report(bytes: &[u8], out: &mut [u8]) -> Written
+    ensures { λ r. ⌜ Reported (now (bytes .entry)) (now (out .entry)) r (now (out .exit)) ⌝ }
+{
+    let mut text = [0u8; ROOM];
+    let count = print(&mut text, bytes);
+    text::put_text(out, &text[..count])
+}

@@ -1,0 +1,42 @@
+/* Calls of leastplan for host programs in C. Link target/staticlib/libhost.a, which `rt staticlib host` builds.
+
+   Each call takes the bytes of a loop sheet and their count; a null pointer with count 0 is an empty sheet (2).
+   Each returns an answer and one number, which is 0 with every answer but 0. Nothing is kept between calls.
+
+   Answers of every call, put in this order:
+     0  the number is what was asked for
+     1  the sheet has more than 4,096 bytes
+     2  a line is missing, malformed or under another key, or something follows the last line
+     3  a number of the sheet is out of its range
+   Further answers stand at each call. */
+#ifndef LEASTPLAN_H
+#define LEASTPLAN_H
+
+#include <stddef.h>
+#include <stdint.h>
+
+typedef struct { uint64_t answer; uint64_t interval; } leastplan_interval;
+typedef struct { uint64_t answer; uint64_t count; } leastplan_text;
+typedef struct { uint64_t answer; uint64_t order; } leastplan_order;
+
+/* The least interval, from 1 to the sheet's cap, that has a plan.
+     7  no interval up to the cap has one */
+leastplan_interval leastplan_least_interval(const uint8_t *sheet, size_t sheet_length);
+
+/* The text of the first plan at the interval, as leastplan prints it, at the front of the buffer; the number is its
+   count of bytes. No zero byte is added. With answer 0 the bytes past the text are as they were; with any other
+   answer the whole buffer is. A null pointer with room 0 takes no text (9).
+     4  the interval is not in 1 to the cap
+     5  no starts meet the dependences at this interval
+     6  no plan exists at this interval
+     9  the buffer does not take the whole text */
+leastplan_text leastplan_plan_text(const uint8_t *sheet, size_t sheet_length, size_t interval, uint8_t *buffer, size_t room);
+
+/* Which operation of a rival pair has the smaller slot in the first plan at the interval. The operations i < j are
+   pair j * (j - 1) / 2 + i. The number is 0 for the same slot, 1 if i has the smaller one, 2 if j has.
+     4, 5, 6  as above
+     14  no such pair: the number is not below N * (N - 1) / 2
+     15  the two operations are not of one limited type */
+leastplan_order leastplan_slot_order(const uint8_t *sheet, size_t sheet_length, size_t interval, size_t pair);
+
+#endif
