@@ -1,11 +1,9 @@
 -- Reading lines from the front of the bytes: what is found and what follows it, or the number of a refusal.
-use Prim.Native.Nat.{ℕ, zero, suc, _-_, _≤_}
-use mathlib.Core.Path.{_≡_}
+use Prim.Native.Nat.{ℕ, zero, suc, _-_}
 use mathlib.Core.List.{List, [], _∷_, _++_}
-use mathlib.Core.Bool.{Bool, true, false, cond}
-use lib.Dec.{eqb}
+use mathlib.Core.Bool.{Bool, cond}
 use lib.IntN.{ℤ}
-use lib.ListN.{length, drop, take, replicate}
+use lib.ListN.{length, replicate}
 use Rattle.scan.specs.Line.{onFields, lineOf}
 
 pub data Found (A : Type 0) : Type 0 where
@@ -43,32 +41,6 @@ linesFrom k (suc n) es bs = andThen (lineFrom k bs) (λ a rest. linesFrom k n (e
 unfoldable pub sectionFrom : {A : Type 0} → Kind ℕ → Kind A → List ℕ → Found (List A)
 sectionFrom counts k bs = andThen (lineFrom counts bs) (λ n rest. linesFrom k n [] rest)
 
--- ---- the same at a place of the bytes s, as the code has it
-
--- the answer and, where it is 0, what was found and the place after it
-unfoldable pub seen : {A : Type 0} → List ℕ → ℕ → A → ℕ → Found A
-seen s answer a next = cond (eqb answer 0) (found a (drop next s)) (refused answer)
-
-pub record Reads {A : Type 0} (s : List ℕ) (answer : ℕ) (a : A) (next : ℕ) (want : Found A) : Type 0 where
-  pub same : seen s answer a next ≡ want
-  pub within : next ≤ length s
-
 -- the entries with d past them, up to the size of the array
 abbrev pub padded : {A : Type 0} → ℕ → A → List A → List A
 padded size d es = es ++ replicate (size - length es) d
-
--- an array that holds count entries, and d past them
-pub record Filled {A : Type 0} (size : ℕ) (d : A) (count : ℕ) (array : List A) : Type 0 where
-  pub long : length array ≡ size
-  pub few : count ≤ size
-  pub rest : array ≡ padded size d (take count array)
-
--- a refusal, with nothing beside it
-pub record Refuses {A : Type 0} (n size : ℕ) (d : A) (answer count : ℕ) (array : List A) (next : ℕ) : Type 0 where
-  pub answered : answer ≡ n
-  pub nowhere : next ≡ 0
-  pub empty : Filled size d count array
-
--- the entries of a section that were read
-abbrev pub Entries : {A : Type 0} → ℕ → A → List ℕ → ℕ → ℕ → List A → ℕ → Found (List A) → Type 0
-Entries size d s answer count array next want = Reads s answer (take count array) next want × Filled size d count array

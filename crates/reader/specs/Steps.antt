@@ -23,7 +23,8 @@ use Rattle.scan.specs.RoundTrip.{isNegative, MayStand, Writable, line-text}
 use Rattle.sheet.specs.Ranges.{Inside}
 use Rattle.reader.specs.Kinds.{numberKind}
 use Rattle.reader.specs.Decide.{inside-says}
-use Rattle.reader.specs.Found.{Found, found, refused, Kind, lineFrom, linesFrom, sectionFrom, seen, Reads, padded, Filled, Refuses, Entries}
+use Rattle.reader.specs.Found.{Found, found, refused, Kind, lineFrom, linesFrom, sectionFrom}
+use Rattle.reader.specs.Seen.{seen, Reads, Filled, Refuses, Entries}
 
 -- ---- numbers of a line
 

@@ -13,7 +13,8 @@ use Rattle.sheet.specs.declared.Operation.{Operation}
 use Rattle.sheet.specs.declared.ResourceType.{ResourceType}
 use Rattle.sheet.specs.Sheet.{noType, noOperation}
 use Rattle.reader.specs.declared.ReadAnswer.{ReadAnswer}
-use Rattle.reader.specs.Found.{Found, found, refused, lineFrom, sectionFrom, Filled}
+use Rattle.reader.specs.Found.{Found, found, refused, lineFrom, sectionFrom}
+use Rattle.reader.specs.Seen.{Filled}
 use Rattle.reader.specs.Kinds.{horizonKind, capKind, typesKind, opsKind, edgesKind, typeKind, opKind, edgeKind}
 use Rattle.reader.specs.Read.{sheetOf, sheetFrom, refusal, accepted, readOf}
 

@@ -1,7 +1,8 @@
 // One line of a sheet: the answer (2 before 3), its entry and the place after it. With a refusal the others are 0.
 ghost use lib.ListN.{drop};
-ghost use Rattle.reader.specs.Found.{Reads, lineFrom};
+ghost use Rattle.reader.specs.Found.{lineFrom};
 ghost use Rattle.reader.specs.Kinds.{numberKind, typeKind, opKind, edgeKind};
+ghost use Rattle.reader.specs.Seen.{Reads};
 use dependence::Edge;
 use sheet::Operation;
 use sheet::ResourceType;
