@@ -1,0 +1,235 @@
+#!/usr/bin/env python3
+"""Inputs and expected outputs for crates/dependence_cases, by enumeration of walks.
+
+Independent of the Rattle crates: walks are lists of edge numbers, tried by length and, within a
+length, in the order of the lists, and every answer is a sum or a greatest over them. Nothing is
+relaxed and no table is kept. So it is slow, and for small graphs only.
+
+Why walks of at most N edges are enough: a longer walk passes an operation twice. What lies between
+is a closed walk. If none of those is bad, cutting it out leaves a sum that is no smaller; if one is
+bad, a shorter bad closed walk exists.
+
+As a program:  dependence_reference.py      writes crates/dependence_cases/stdin and stdout
+               dependence_reference.py -n   compares them with what stands there
+"""
+
+import itertools
+import os
+import random
+import sys
+
+INTERVALS = (0, 1, 2, 3, 6, 64, 65)
+FLOOR = 16384
+SEED = 20020
+
+# ---- the sheet as text
+
+
+def text(horizon, cap, types, ops, edges):
+    lines = [f"horizon={horizon}", f"cap={cap}", f"types={len(types)}"]
+    lines += [f"type={a},{d}" for a, d in types]
+    lines += [f"ops={len(ops)}"] + [f"op={r}" for r in ops]
+    lines += [f"edges={len(edges)}"] + [f"edge={i},{j},{d},{b}" for i, j, d, b in edges]
+    return "".join(line + "\n" for line in lines)
+
+
+# ---- the rules
+
+
+class Graph:
+    """Latencies of the operations, and edges (from, to, delay, distance)."""
+
+    def __init__(self, latency, edges):
+        self.latency, self.edges = latency, edges
+        self.n = len(latency)
+
+    def total(self, k, interval):
+        i, _, d, b = self.edges[k]
+        return self.latency[i] + d - b * interval
+
+    def walks(self, size):
+        """Every walk of this many edges, in the order of the lists."""
+        if size == 0:
+            return [()]
+        longer = []
+        for walk in self.walks(size - 1):
+            for k, edge in enumerate(self.edges):
+                if not walk or self.edges[walk[-1]][1] == edge[0]:
+                    longer.append(walk + (k,))
+        return sorted(longer)
+
+    def sum(self, walk, interval):
+        return sum(self.total(k, interval) for k in walk)
+
+    def ends(self, walk):
+        return self.edges[walk[0]][0], self.edges[walk[-1]][1]
+
+    def all_walks(self):
+        """Every walk of 1 to N edges, shorter ones first."""
+        if not hasattr(self, "kept"):
+            self.kept = [w for size in range(1, self.n + 1) for w in self.walks(size)]
+        return self.kept
+
+    def first_bad(self, interval):
+        for walk in self.all_walks():
+            i, j = self.ends(walk)
+            if i == j and self.sum(walk, interval) > 0:
+                return walk
+        return None
+
+    def meets(self, starts, interval):
+        return all(
+            starts[i] + self.total(k, interval) <= starts[j]
+            for k, (i, j, _, _) in enumerate(self.edges)
+        )
+
+    def earliest(self, floor, interval):
+        """The greatest of a floor and of a floor and a walk from it."""
+        starts = list(floor)
+        for walk in self.all_walks():
+            i, j = self.ends(walk)
+            starts[j] = max(starts[j], floor[i] + self.sum(walk, interval))
+        assert self.meets(starts, interval)
+        return starts
+
+    def separation(self, i, j, interval):
+        sums = [self.sum(w, interval) for w in self.all_walks() if self.ends(w) == (i, j)]
+        return str(max(sums)) if sums else "x"
+
+    def lag(self, i, interval):
+        floor = [FLOOR if v == i else 0 for v in range(self.n)]
+        return [t - FLOOR for t in self.earliest(floor, interval)]
+
+    def bound(self, cap):
+        for interval in range(1, cap + 1):
+            if self.first_bad(interval) is None:
+                return 0, interval
+        return 8, 0
+
+
+# ---- what the program prints
+
+
+def numbers(values):
+    return ",".join(str(v) for v in values)
+
+
+def at_interval(graph, interval):
+    out = [f"interval={interval}"]
+    outside = not 1 <= interval <= 64
+    totals = []
+    for k in range(len(graph.edges) + 1):
+        if k == len(graph.edges):
+            totals += [3, 0]
+        elif outside:
+            totals += [4, 0]
+        else:
+            totals += [0, graph.total(k, interval)]
+    out.append("totals=" + numbers(totals))
+    if outside:
+        return out + ["walk=4", "earliest=4"]
+    loop = graph.first_bad(interval)
+    if loop is not None:
+        return out + ["walk=" + numbers((5,) + loop), "earliest=" + numbers((5,) + loop)]
+    n = range(graph.n)
+    out += ["walk=0", "earliest=" + numbers([0] + graph.earliest([0 for _ in n], interval))]
+    out += ["separation=" + numbers(graph.separation(i, j, interval) for j in n) for i in n]
+    out += ["lag=" + numbers(graph.lag(i, interval)) for i in n]
+    return out
+
+
+def expected(answer, sheet):
+    """The lines for one sheet; the answer is that of reading it."""
+    out = [f"answer={answer}"]
+    if answer == 0:
+        _, cap, types, ops, edges = sheet
+        graph = Graph([types[r][1] for r in ops], edges)
+        out.append("bound=" + numbers(graph.bound(cap)))
+        for interval in INTERVALS:
+            out += at_interval(graph, interval)
+    return out
+
+
+# ---- the sheets
+
+
+def chosen():
+    """Sheets made for one thing each."""
+    one, two = [(0, 1)], [(0, 1), (2, 0)]
+    yield 4, 4, [(1, 1), (0, 1)], [0, 1, 0], [(0, 1, 0, 0), (1, 2, 0, 0), (2, 0, 0, 2)]  # case A
+    yield 5, 5, [(1, 1)], [0, 0], [(0, 1, 3, 0), (1, 0, -5, 0)]
+    yield 1, 3, one, [0], [(0, 0, 0, 0)]  # bad at every interval
+    yield 1, 3, [(1, 0)], [0], [(0, 0, 0, 0)]  # a sum of exactly 0
+    yield 1, 1, one, [0], []  # no edges
+    yield 9, 9, one, [0, 0, 0], []  # no edges, no walks
+    yield 9, 9, one, [0, 0], [(0, 1, 0, 0), (0, 1, 2, 0), (0, 1, -3, 0), (1, 0, 0, 8)]  # parallel edges
+    yield 9, 9, one, [0, 0], [(0, 0, 5, 1), (0, 0, 2, 1), (1, 1, -1, 0)]  # self edges
+    yield 9, 9, one, [0, 0], [(1, 0, 0, 0), (0, 1, 0, 0), (1, 0, 0, 0)]  # ties between shortest loops
+    yield 9, 9, one, [0, 0, 0], [(2, 1, 0, 0), (1, 2, 0, 0), (0, 0, 0, 1), (1, 0, 9, 0)]  # a self loop at 0 only for L = 1
+    yield 9, 9, one, [0, 0, 0], [(0, 1, 0, 0), (1, 2, 0, 0), (2, 0, 0, 0), (2, 2, 0, 0)]  # the shorter loop has the greater number
+    yield 9, 9, one, [0, 0, 0], [(1, 2, 0, 0), (2, 1, -9, 0), (0, 1, 4, 0), (1, 0, -5, 0)]  # sums exactly 0
+    yield 9, 64, one, [0, 0], [(0, 1, 62, 0), (1, 0, 64, 2)]  # a bound of 64
+    yield 9, 63, one, [0, 0], [(0, 1, 62, 0), (1, 0, 64, 2)]  # one below it: 8
+    yield 9, 9, [(0, 32)], [0], [(0, 0, 64, 8)]
+    yield 9, 9, [(0, 0)], [0, 0], [(0, 1, -64, 8), (1, 0, -64, 8)]
+    yield 9, 9, two, [0, 1, 0], [(1, 0, 0, 0), (0, 1, -1, 0), (1, 2, 1, 1), (2, 1, 0, 0)]
+
+
+def random_sheets(pick, count):
+    for _ in range(count):
+        n = pick.randint(1, 4)
+        types = [(pick.randint(0, 2), pick.choice((0, 1, 1, 2, 3))) for _ in range(pick.randint(1, 3))]
+        ops = [pick.randrange(len(types)) for _ in range(n)]
+        edges = []
+        for _ in range(pick.randint(0, 6)):
+            i, j = pick.randrange(n), pick.randrange(n)
+            if edges and pick.random() < 0.2:
+                i, j = edges[-1][:2]  # parallel
+            d = pick.choice((0, 0, 1, 2, -1, -2, -3, pick.randint(-64, 64)))
+            b = pick.choice((0, 0, 1, 1, 2, 3, pick.randint(0, 8)))
+            if j <= i and pick.random() < 0.7:
+                b = max(b, 1)
+            edges.append((i, j, d, b))
+        yield pick.randint(1, 128), pick.randint(1, 12), types, ops, edges
+
+
+REFUSED = [
+    (2, ""),
+    (2, "horizon=1\n"),
+    (2, "horizon=01\ncap=1\ntypes=1\ntype=0,0\nops=1\nop=0\nedges=0\n"),
+    (3, "horizon=129\ncap=1\ntypes=1\ntype=0,0\nops=1\nop=0\nedges=0\n"),
+    (3, "horizon=1\ncap=1\ntypes=1\ntype=0,0\nops=1\nop=0\nedges=1\nedge=0,0,-65,0\n"),
+    (3, "horizon=1\ncap=1\ntypes=1\ntype=0,0\nops=1\nop=0\nedges=1\nedge=0,1,0,0\n"),
+    (2, "horizon=1\ncap=1\ntypes=1\ntype=0,0\nops=1\nop=0\nedges=1\nedge=0,0,-0,0\n"),
+    (1, "horizon=1\n" + "x" * 4087),
+]
+
+
+def pieces():
+    """Each piece with the lines that are due for it."""
+    for sheet in itertools.chain(chosen(), random_sheets(random.Random(SEED), 150)):
+        yield text(*sheet), expected(0, sheet)
+    for answer, piece in REFUSED:
+        yield piece, expected(answer, None)
+
+
+def main():
+    there = os.path.join(os.path.dirname(os.path.abspath(__file__)), "..", "crates", "dependence_cases")
+    stdin, stdout = "", ""
+    for number, (piece, lines) in enumerate(pieces()):
+        stdin += f"bytes={len(piece)}\n{piece}"
+        stdout += "".join(line + "\n" for line in [f"piece={number}"] + lines)
+    made = {"stdin": stdin, "stdout": stdout}
+    if sys.argv[1:] == ["-n"]:
+        same = all(open(os.path.join(there, name)).read() == made[name] for name in made)
+        print("same" if same else "different")
+        return 0 if same else 1
+    for name in made:
+        with open(os.path.join(there, name), "w") as f:
+            f.write(made[name])
+    print(f"{number + 1} pieces, {len(stdin)} bytes in, {len(stdout)} bytes out")
+    return 0
+
+
+if __name__ == "__main__":
+    sys.exit(main())
