@@ -1,0 +1,29 @@
+-- Slot order: what each answer says, in terms of the plan at the interval. Each pins the whole result and carries why it is right.
+use Prim.Native.Nat.{ℕ, _*_, _-_, _/_, _<_}
+use mathlib.Core.Path.{_≡_}
+use Rattle.sheet.specs.declared.Sheet.{Sheet}
+use Rattle.plan.specs.declared.PlanAnswer.{PlanAnswer}
+use Rattle.plan.specs.Rules.{Rivals, slot}
+use Rattle.plan.specs.Answers.{PlanAt, column}
+use Rattle.slot_order.specs.Pairs.{Pair}
+use Rattle.slot_order.specs.declared.SlotOrder.{SlotOrder}
+
+-- 0 for the same slot, 1 if the first has the smaller slot, 2 if the second has
+pub data Order (a b : ℕ) : ℕ → Type 0 where
+  same : a ≡ b → Order a b 0
+  first : a < b → Order a b 1
+  second : b < a → Order a b 2
+
+abbrev pub refused : ℕ → SlotOrder
+refused n = record { answer = n; order = 0 }
+
+pub data SlotOrderAt (s : Sheet) (L pair : ℕ) : SlotOrder → Type 0 where
+  -- 3 to 6: the plan's own refusal
+  no-plan : (p : PlanAnswer) → PlanAt s L p → (p .answer ≡ 0 → ⊥) → SlotOrderAt s L pair (refused (p .answer))
+  -- 14
+  no-pair : (p : PlanAnswer) → PlanAt s L p → p .answer ≡ 0 → (pair < s .«op_count» * (s .«op_count» - 1) / 2 → ⊥) → SlotOrderAt s L pair (refused 14)
+  -- 15
+  no-rivals : (p : PlanAnswer) → PlanAt s L p → p .answer ≡ 0 → (i j : ℕ) → Pair (s .«op_count») pair i j → (Rivals s i j → ⊥) → SlotOrderAt s L pair (refused 15)
+  -- the order of the slots in the plan given
+  ordered : (p : PlanAnswer) → PlanAt s L p → p .answer ≡ 0 → (i j : ℕ) → Pair (s .«op_count») pair i j → Rivals s i j →
+      {o : ℕ} → Order (slot L (column (p .starts) i)) (slot L (column (p .starts) j)) o → SlotOrderAt s L pair (record { answer = 0; order = o })

@@ -1,0 +1,91 @@
+// Slot order: which operation of a pair of rivals has the smaller slot in the plan at an interval.
+ghost use Prim.Native.Nat.{_<_};
+ghost use mathlib.Core.Path.{_≡_};
+ghost use Rattle.plan.specs.Answers.{PlanAt};
+ghost use Rattle.slot_order.specs.Pairs.{Between};
+ghost use Rattle.slot_order.specs.Answers.{SlotOrderAt, Order};
+use plan::PlanAnswer;
+use sheet::Sheet;
+
+// The first pair number for each j, and at 24 the number of all pairs.
+const FIRST_PAIRS: [usize; 25] = [
+    0, 0, 1, 3, 6, 10, 15, 21, 28, 36, 45, 55, 66, 78, 91, 105, 120, 136, 153, 171, 190, 210, 231, 253, 276,
+];
+
+#[repr(C)]
+pub struct SlotOrder {
+    pub answer: usize,
+    pub order: usize,
+}
+
+// The later operation j of a pair.
+fn later_of(pair: usize) -> usize
+    requires { ⌜ pair < 276 ⌝ }
+    ensures { λ r. ⌜ Between pair r ⌝ }
+{
+    let mut j: usize = 1;
+    while j < 23 {
+        let next = FIRST_PAIRS[j + 1];
+        if pair < next {
+            return j;
+        }
+        j += 1;
+    }
+    j
+}
+
+// 0 for one slot, 1 if the first is smaller, 2 if the second is.
+fn order_of(a: usize, b: usize) -> usize
+    ensures { λ r. ⌜ Order a b r ⌝ }
+{
+    if a < b {
+        return 1;
+    }
+    if b < a {
+        return 2;
+    }
+    0
+}
+
+// The order of the pair's slots in the plan given.
+fn order_in(sheet: Sheet, interval: usize, pair: usize, plan: PlanAnswer) -> SlotOrder
+    requires { ⌜ PlanAt sheet interval plan ⌝ }
+    ensures { λ r. ⌜ SlotOrderAt sheet interval pair r ⌝ }
+{
+    if plan.answer != 0 {
+        return SlotOrder {
+            answer: plan.answer,
+            order: 0,
+        };
+    }
+    let count = sheet.op_count;
+    if FIRST_PAIRS[count] <= pair {
+        return SlotOrder {
+            answer: 14,
+            order: 0,
+        };
+    }
+    let j = later_of(pair);
+    let i = pair - FIRST_PAIRS[j];
+    if !rules::rivals(sheet, i, j) {
+        return SlotOrder {
+            answer: 15,
+            order: 0,
+        };
+    }
+    let starts = plan.starts;
+    let a = rules::slot_of(interval, starts[i]);
+    let b = rules::slot_of(interval, starts[j]);
+    SlotOrder {
+        answer: 0,
+        order: order_of(a, b),
+    }
+}
+
+// The slot order of a pair of operations in the plan at an interval: questions 3 to 6, 14 and 15.
+pub fn slot_order(sheet: Sheet, interval: usize, pair: usize) -> SlotOrder
+    ensures { λ r. ⌜ SlotOrderAt sheet interval pair r ⌝ }
+{
+    let plan = schedule::plan_at(sheet, interval);
+    order_in(sheet, interval, pair, plan)
+}
