@@ -13,7 +13,7 @@ import time
 import encodings_of_plans as encodings
 
 HERE = os.path.dirname(os.path.abspath(__file__))
-LIMIT = 60
+LIMIT = 20
 
 
 class Solver:
