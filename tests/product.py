@@ -7,7 +7,7 @@ import subprocess
 import sys
 
 ROOT = os.path.realpath(os.path.join(os.path.dirname(os.path.abspath(__file__)), ".."))
-RT = shutil.which("rt") or "/opt/rattle/bin/rt"
+RT = shutil.which("rt") or sys.exit("the Rattle kit is missing: no rt on the PATH")
 KIT = os.environ.get("RATTLE_HOME") or os.path.dirname(os.path.dirname(os.path.realpath(RT)))
 TOOLS = os.path.join(KIT, "on", os.uname().machine, "toolchain")
 

@@ -8,8 +8,8 @@ use native.Mathlib.Decide.{decLt}
 use lib.ListN.{getD, length}
 use lib.Seq.{ext-getD}
 use lib.IntN.{ℤ, pos}
-use Rattle.dependence.specs.declared.Graph.{Graph}
-use Rattle.dependence.specs.Rules.{FirstBadWalk, Before, less, same, Meets}
+use Rattle.dependence.specs.Rules.{FirstBadWalk, Meets}
+use Rattle.dependence.specs.Unique.{first-one}
 use Rattle.sheet.specs.declared.Sheet.{Sheet}
 use Rattle.sheet.specs.Sheet.{InRange, Interval, graphOf}
 use Rattle.plan.specs.declared.PlanAnswer.{PlanAnswer}
@@ -18,19 +18,6 @@ use Rattle.plan.specs.Rules.{Plan}
 use Rattle.plan.specs.Order.{Same, Precedes}
 use Rattle.plan.specs.Total.{precedes-precedes, precedes-same, same-sym}
 use Rattle.plan.specs.Answers.{column, zeros, First, PlanAt, Padded, ZeroFrom, Least, out-of-range, no-interval, bad-walk, denied, given, sheet-out-of-range, none, least}
-
--- ---- the first bad closed walk
-
-before-before : {xs ys : List ℕ} → Before xs ys → Before ys xs → ⊥
-before-before (less a) (less b) = omega arith
-before-before (less a) (same b) = omega arith
-before-before (same a) (less b) = omega arith
-before-before (same a) (same b) = before-before a b
-
-pub walk-unique : {g : Graph} {L : ℕ} {ks js : List ℕ} → FirstBadWalk g L ks → FirstBadWalk g L js → ks ≡ js
-walk-unique {g} {L} {ks} {js} a b = ⊎-elim (λ l. ⊎-elim (λ m. absurd (omega arith)) (λ m. absurd (omega (arith, m .0))) (b .first ks (a .bad)))
-    (λ l. ⊎-elim (λ e. e) (λ p. ⊎-elim (λ m. absurd (omega (arith, l .0))) (λ m. ⊎-elim (λ e. sym e) (λ q. absurd (before-before p q)) (m .1)) (b .first ks (a .bad))) (l .1))
-    (a .first js (b .bad))
 
 -- ---- the first plan
 
@@ -67,7 +54,7 @@ module _ {s : Sheet} {L : ℕ} where
   plan-at-unique (bad-walk a _ _ _ _) (out-of-range b) = absurd (b a)
   plan-at-unique (bad-walk _ a _ _ _) (no-interval _ b) = absurd (b a)
   plan-at-unique (bad-walk _ _ w p _) (bad-walk _ _ {es = es'} w' p' _) =
-      let e = walk-unique w w' in
+      let e = first-one w w' in
       ap₂ (λ (n : ℕ) (xs : List ℕ). record { answer = 5; starts = zeros; instances = zeros; «loop_length» = n; «loop_edges» = xs }) (ap length e) (padded-unique p (subst (λ (k : List ℕ). Padded k es') (sym e) p'))
   plan-at-unique (bad-walk _ _ _ _ a) (denied _ _ t m _) = absurd (a t m)
   plan-at-unique (bad-walk _ _ _ _ a) (given _ _ f _ _) = absurd (a _ (f .plan .dependence))
