@@ -61,7 +61,7 @@ module _ {s : Sheet} {L pair : ℕ} where
       let u = pair-unique (ops-most (given-range a e)) k' k in
       let z = sym (plan-at-unique a b) in
       let w : Order (slot L (column (p .starts) i)) (slot L (column (p .starts) j)) o' =
-        subst (λ (c : PlanAnswer). Order (slot L (column (c .starts) i)) (slot L (column (c .starts) j)) o') z
-        (subst (λ (h : ℕ). Order (slot L (column (q .starts) h)) (slot L (column (q .starts) j)) o') (u .0)
-        (subst (λ (h : ℕ). Order (slot L (column (q .starts) i')) (slot L (column (q .starts) h)) o') (u .1) y)) in
+      subst (λ (c : PlanAnswer). Order (slot L (column (c .starts) i)) (slot L (column (c .starts) j)) o') z
+      (subst (λ (h : ℕ). Order (slot L (column (q .starts) h)) (slot L (column (q .starts) j)) o') (u .0)
+      (subst (λ (h : ℕ). Order (slot L (column (q .starts) i')) (slot L (column (q .starts) h)) o') (u .1) y)) in
       ap (λ (k : ℕ). record { answer = 0; order = k }) (order-unique x w)

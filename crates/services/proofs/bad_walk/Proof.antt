@@ -26,7 +26,7 @@ bad-walk-requires : tie.Need-bad-walk-requires
 bad-walk-requires c κs = search needs
 
 returns : tie.Need-returns
-returns c = 
+returns c =
     let v = c .before .before in
     let r = v .before .before in
     let ok = r .before .in-range .ensures .yes (r .if1 .taken) in
@@ -39,7 +39,7 @@ walk-refused-requires : tie.Need-walk-refused-requires
 walk-refused-requires c κs = search needs
 
 returns-2 : tie.Need-returns-2
-returns-2 c = 
+returns-2 c =
     let v = c .before in
     let r = v .before .before in
     subst (WalkAt (r .before .before .args .sheet) (r .before .before .args .interval)) (sym (c .walk-refused .ensures))
@@ -49,7 +49,7 @@ walk-refused-requires-2 : tie.Need-walk-refused-requires-2
 walk-refused-requires-2 c κs = search needs
 
 returns-3 : tie.Need-returns-3
-returns-3 c = 
+returns-3 c =
     let r = c .before in
     subst (WalkAt (r .before .before .args .sheet) (r .before .before .args .interval)) (sym (c .walk-refused2 .ensures)) (walk-out-of-range (r .before .in-range .ensures .no (r .if1 .left)))
 

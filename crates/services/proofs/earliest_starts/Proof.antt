@@ -29,7 +29,7 @@ earliest-requires : tie.Need-earliest-requires
 earliest-requires c κs = search needs
 
 returns : tie.Need-returns
-returns c = 
+returns c =
     let v = c .before .before in
     let r = v .before .before in
     let ok = r .before .in-range .ensures .yes (r .if1 .taken) in
@@ -42,7 +42,7 @@ starts-refused-requires : tie.Need-starts-refused-requires
 starts-refused-requires c κs = search needs
 
 returns-2 : tie.Need-returns-2
-returns-2 c = 
+returns-2 c =
     let v = c .before in
     let r = v .before .before in
     subst (StartsAt (r .before .before .args .sheet) (r .before .before .args .interval)) (sym (c .starts-refused .ensures))
@@ -52,7 +52,7 @@ starts-refused-requires-2 : tie.Need-starts-refused-requires-2
 starts-refused-requires-2 c κs = search needs
 
 returns-3 : tie.Need-returns-3
-returns-3 c = 
+returns-3 c =
     let r = c .before in
     subst (StartsAt (r .before .before .args .sheet) (r .before .before .args .interval)) (sym (c .starts-refused2 .ensures)) (starts-out-of-range (r .before .in-range .ensures .no (r .if1 .left)))
 

@@ -26,7 +26,7 @@ array-read-next : tie.Need-array-read-next Inv-loop μ-loop
 array-read-next c = omega arith
 
 returns : tie.Need-returns Inv-loop μ-loop
-returns c = 
+returns c =
     let l = c .before .before in
     record { some = l .loop .inv .0; most = omega (arith, c .before .loop-test .taken); from = l .loop .inv .2; to = c .if1 .taken }
 
@@ -40,7 +40,7 @@ loop-again : tie.Need-loop-again Inv-loop μ-loop
 loop-again c = (omega arith, omega (arith, c .before .loop-test .taken), c .if1 .left)
 
 returns-2 : tie.Need-returns-2 Inv-loop μ-loop
-returns-2 c = 
+returns-2 c =
     let l = c .before in
     let e : l .loop .j ≡ 23 = omega (arith, c .loop-test .left) in
     record { some = l .loop .inv .0; most = omega arith; from = l .loop .inv .2; to = subst (λ (k : ℕ). l .before .args .pair < firstPair (k + 1)) (sym e) (l .before .pre) }

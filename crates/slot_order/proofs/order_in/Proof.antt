@@ -78,7 +78,7 @@ order-of-requires : tie.Need-order-of-requires
 order-of-requires c κs = search needs
 
 returns-4 : tie.Need-returns-4
-returns-4 c = 
+returns-4 c =
     ordered _ (c .before .before .before .before .before .before .before .before .before .before .pre) (c .before .before .before .before .before .before .before .before .if1 .left) _ _ (found (c .before .before .before .before .before .before)) (passed (c .before .before .before .before .before .rivals .ensures) (c .before .before .before .before .if3 .left))
     (rw (c .before .before .slot-of .ensures, c .before .slot-of2 .ensures) at (c .order-of .ensures))
 
