@@ -4,10 +4,10 @@
     compare.py times [SHEETS]             the product alone: each interval that leastplan asks about
     compare.py solvers [SHEETS [SEED]]    beside the solvers that are installed
 
-The product is called through its C archive in one process (bench/times.c), so its times have no start-up in
-them. From a solver's time that of the same solver on a question with nothing to do is taken off. Solvers
-decide feasibility only, and are asked only from the greater of the two bounds to the least interval: below
-the bounds counting or a loop of edges refuses at once. The product gives the first plan.
+All times are processor time. The product is called through its C archive in one process (bench/times.c), so
+its times have no start-up in them. From a solver's time that of the same solver on a question with nothing to
+do is taken off. Solvers decide feasibility only, and are asked only from the greater of the two bounds to the
+least interval: below the bounds counting or a loop of edges refuses at once. The product gives the first plan.
 """
 
 import os
@@ -60,15 +60,26 @@ def milliseconds(values):
     return " / ".join("%.3g" % (1000 * v) for v in three)
 
 
+def from_the_bounds(made, rows):
+    """(sheet, row) of each question at an interval that neither bound refuses."""
+    return [
+        (sheet, row)
+        for sheet, of_sheet in zip(made, rows)
+        for row in of_sheet
+        if row[1] != 5 and row[0] >= resource_bound(sheet)
+    ]
+
+
 def times(count):
-    print("| family | sheets | intervals | median / 95 % / greatest, ms | intervals over 20 ms | over 1 s |")
-    print("|---|---|---|---|---|---|")
+    print("| family | sheets | intervals | all: median / 95 % / greatest, ms | from the bounds up | the same, ms | over 1 s |")
+    print("|---|---|---|---|---|---|---|")
     for family in loops.FAMILIES:
-        texts = [sheet_text(loops.sheet_of(family, seed)) for seed in range(count)]
-        asked = [row for rows in product_times(texts) for row in rows]
-        took = [row[2] for row in asked]
-        slow = sum(t > 0.02 for t in took), sum(t > 1 for t in took)
-        print("| %s | %d | %d | %s | %d | %d |" % (family, count, len(took), milliseconds(took), *slow), flush=True)
+        made = [loops.sheet_of(family, seed) for seed in range(count)]
+        rows = product_times([sheet_text(s) for s in made])
+        took = [row[2] for of_sheet in rows for row in of_sheet]
+        hard = [row[2] for _, row in from_the_bounds(made, rows)]
+        cells = family, count, len(took), milliseconds(took), len(hard), milliseconds(hard), sum(t > 1 for t in took)
+        print("| %s | %d | %d | %s | %d | %s | %d |" % cells, flush=True)
 
 
 def start_up(solver):
@@ -82,12 +93,7 @@ def beside(count, seed):
     for family in loops.FAMILIES:
         made = [loops.sheet_of(family, seed + k) for k in range(count)]
         rows = product_times([sheet_text(s) for s in made])
-        asked = [
-            (sheet, row)
-            for sheet, of_sheet in zip(made, rows)
-            for row in of_sheet
-            if row[1] != 5 and row[0] >= resource_bound(sheet)
-        ]
+        asked = from_the_bounds(made, rows)
         print("%s: %d questions" % (family, len(asked)))
         print("  leastplan  " + milliseconds([row[2] for _, row in asked]), flush=True)
         for solver in present:

@@ -1,14 +1,14 @@
-"""Runs general exact solvers on one interval question: sat, unsat or none (time limit), with seconds.
+"""Runs general exact solvers on one interval question: sat, unsat or none (time limit), with seconds of processor time.
 
 A solver is optional: one that is not installed is left out. Debian's packages: minizinc and flatzinc
 (gecode), cadical, clasp, z3, coinor-cbc.
 """
 
 import os
+import resource
 import shutil
 import subprocess
 import tempfile
-import time
 
 import encodings_of_plans as encodings
 
@@ -27,19 +27,24 @@ class Solver:
         return shutil.which(self.program) is not None
 
     def solve(self, sheet, interval):
-        """("sat" | "unsat" | "none", seconds of the solver's process)"""
+        """("sat" | "unsat" | "none", seconds of processor time of the solver's process)"""
         with tempfile.TemporaryDirectory() as folder:
             path = os.path.join(folder, "plan" + self.suffix)
             self.write(sheet, interval, path)
-            began = time.perf_counter()
+            before = children_time()
             try:
                 done = subprocess.run(
                     self.command(path), stdout=subprocess.PIPE, stderr=subprocess.STDOUT, timeout=LIMIT
                 )
             except subprocess.TimeoutExpired:
                 return "none", float(LIMIT)
-            took = time.perf_counter() - began
+            took = children_time() - before
             return self.reads(done.stdout.decode(errors="replace"), path), took
+
+
+def children_time():
+    used = resource.getrusage(resource.RUSAGE_CHILDREN)
+    return used.ru_utime + used.ru_stime
 
 
 def writer(encode):
