@@ -29,7 +29,7 @@ pub data SlotOrderOf (bytes : List ℕ) (L pair : ℕ) : SlotOrder → Type 0 wh
   served-order : readOf bytes .answer ≡ 0 → {r : SlotOrder} → SlotOrderAt (readOf bytes .sheet) L pair r → SlotOrderOf bytes L pair r
 
 -- from what reading gave
-module _ {bytes : List ℕ} {q : ReadAnswer} (e : q ≡ readOf bytes) where
+module _ (bytes : List ℕ) {q : ReadAnswer} (e : q ≡ readOf bytes) where
   same-answer : q .answer ≡ readOf bytes .answer
   same-answer = ap (λ (x : ReadAnswer). x .answer) e
 

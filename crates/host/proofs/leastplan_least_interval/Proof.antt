@@ -9,13 +9,13 @@ read-requires : tie.Need-read-requires
 read-requires c κs = search needs
 
 returns : tie.Need-returns
-returns c = least-unread (c .before .read .ensures) (c .if1 .taken)
+returns c = least-unread _ (c .before .read .ensures) (c .if1 .taken)
 
 least-interval-requires : tie.Need-least-interval-requires
 least-interval-requires c κs = search needs
 
 returns-2 : tie.Need-returns-2
-returns-2 c = least-served (c .before .before .before .read .ensures) (c .before .before .if1 .left) (c .least-interval .ensures)
+returns-2 c = least-served _ (c .before .before .before .read .ensures) (c .before .before .if1 .left) (c .least-interval .ensures)
 
 pub leastplan-least-interval-spec : {M : Type 1} → statement M
 leastplan-least-interval-spec =

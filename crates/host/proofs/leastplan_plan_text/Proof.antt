@@ -9,7 +9,7 @@ read-requires : tie.Need-read-requires
 read-requires c κs = search needs
 
 returns : tie.Need-returns
-returns c = text-unread (c .before .read .ensures) (c .if1 .taken)
+returns c = text-unread _ (c .before .read .ensures) (c .if1 .taken)
 
 plan-text-requires : tie.Need-plan-text-requires
 plan-text-requires c κs = search needs
@@ -18,7 +18,7 @@ same-length : tie.Need-same-length
 same-length c = search needs
 
 returns-2 : tie.Need-returns-2
-returns-2 c = text-served (c .before .before .before .before .before .before .read .ensures) (c .before .before .before .before .before .if1 .left) (c .before .before .plan-text .ensures)
+returns-2 c = text-served _ (c .before .before .before .before .before .before .read .ensures) (c .before .before .before .before .before .if1 .left) (c .before .before .plan-text .ensures)
 
 pub leastplan-plan-text-spec : {M : Type 1} → statement M
 leastplan-plan-text-spec =

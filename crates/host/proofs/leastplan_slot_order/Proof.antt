@@ -9,13 +9,13 @@ read-requires : tie.Need-read-requires
 read-requires c κs = search needs
 
 returns : tie.Need-returns
-returns c = order-unread (c .before .read .ensures) (c .if1 .taken)
+returns c = order-unread _ (c .before .read .ensures) (c .if1 .taken)
 
 slot-order-requires : tie.Need-slot-order-requires
 slot-order-requires c κs = search needs
 
 returns-2 : tie.Need-returns-2
-returns-2 c = order-served (c .before .before .before .read .ensures) (c .before .before .if1 .left) (c .slot-order .ensures)
+returns-2 c = order-served _ (c .before .before .before .read .ensures) (c .before .before .if1 .left) (c .slot-order .ensures)
 
 pub leastplan-slot-order-spec : {M : Type 1} → statement M
 leastplan-slot-order-spec =
