@@ -11,7 +11,10 @@ pub extern "C" fn leastplan_least_interval(sheet: &[u8]) -> IntervalAnswer
     let read = reader::read(sheet);
     let answer = read.answer;
     if answer != 0 {
-        return IntervalAnswer { answer, interval: 0 };
+        return IntervalAnswer {
+            answer,
+            interval: 0,
+        };
     }
     let numbers = read.sheet;
     schedule::least_interval(numbers)
