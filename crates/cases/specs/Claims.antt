@@ -51,6 +51,7 @@ pub data Claim : Type 0 where
 abbrev pub pairs : ℕ → ℕ
 pairs n = n * (n - 1) / 2
 
+-- what a claim states of the rules: an answer with every number beside it, a bound, or question 14 for a pair number and N operations
 abbrev pub Says : Claim → Type 0
 Says (refuses-interval s L) = PlanAt s L (refused 4)
 Says (refuses-walk s L ks) = PlanAt s L (record { answer = 5; starts = zeros; instances = zeros; «loop_length» = length ks; «loop_edges» = padded ks })
@@ -68,9 +69,11 @@ Says (pair-in n p) = p < pairs n
 abbrev pub intervals : ℕ → (ℕ → Bool) → Bool
 intervals m p = upTo (m - 1) (λ k. p (suc k))
 
+-- question 4, computed: the interval (initiation interval) is in 1 to the cap
 abbrev pub intervalTest : Sheet → ℕ → Bool
 intervalTest s L = both (leb 1 L) (leb L (s .cap))
 
+-- what is computed to show a claim; plans and walks are tried one by one
 abbrev pub test : Claim → Bool
 test (refuses-interval s L) = both (sheetTest s) (not (intervalTest s L))
 test (refuses-walk s L ks) = both (sheetTest s) (both (intervalTest s L) (both (leb (length ks) 24) (firstWalkTest (graphOf s) L ks)))

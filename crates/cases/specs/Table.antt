@@ -82,6 +82,7 @@ alone = record {
   edges = [];
 }
 
+-- the claims of the starred cases in the order of 01; of case A also the answer at each interval that leastplan prints
 abbrev pub table : List Claim
 table =
     recurrence-is (ring 3) 2 (0 ∷ 1 ∷ 2 ∷ []) (0 ∷ 1 ∷ 2 ∷ []) ∷

@@ -17,6 +17,7 @@ use Rattle.plan.specs.Answers.{column}
 use Rattle.plan.specs.Resource.{greatest, shareOf}
 use Rattle.laws.specs.Count.{bit}
 
+-- a and b are both true
 abbrev pub both : Bool → Bool → Bool
 both a b = cond a b false
 
@@ -38,18 +39,22 @@ lexThen (x ∷ xs) (y ∷ ys) b = cond (ltb x y) true (both (eqb x y) (lexThen x
 
 -- ---- question 3
 
+-- the number is in the range of the field
 abbrev pub insideTest : ℕ → ℤ → Bool
 insideTest field z = both (leZ (range.rangeOf field .low) z) (leZ z (range.rangeOf field .high))
 
+-- A and D of type r are in their ranges
 abbrev pub typeTest : Sheet → ℕ → Bool
 typeTest s r = both (insideTest range.instances (pos (typeAt s r .instances))) (insideTest range.latency (pos (typeAt s r .latency)))
 
+-- i and j of edge k are below N, d and b are in their ranges
 abbrev pub edgeTest : Sheet → ℕ → Bool
 edgeTest s k =
     both (ltb (edgeAt (graphOf s) k .from) (s .«op_count»))
     (both (ltb (edgeAt (graphOf s) k .to) (s .«op_count»))
     (both (insideTest range.delay (edgeAt (graphOf s) k .delay)) (insideTest range.distance (pos (edgeAt (graphOf s) k .distance)))))
 
+-- H, M, R, N and E are in their ranges
 abbrev pub countsTest : Sheet → Bool
 countsTest s =
     both (insideTest range.horizon (pos (s .horizon)))
@@ -57,6 +62,7 @@ countsTest s =
     (both (insideTest range.types (pos (s .«type_count»)))
     (both (insideTest range.operations (pos (s .«op_count»))) (insideTest range.edges (pos (s .«edge_count»))))))
 
+-- every number of the sheet is in its range
 unfoldable pub sheetTest : Sheet → Bool
 sheetTest s =
     both (countsTest s)
@@ -65,9 +71,11 @@ sheetTest s =
 
 -- ---- the rules of a plan
 
+-- dependence: t of i plus the total is at most t of j, for every edge
 abbrev pub meetsTest : Sheet → ℕ → List ℕ → Bool
 meetsTest s L ts = upTo (s .«edge_count») (λ k. leZ (pos (column ts (edgeAt (graphOf s) k .from)) +ℤ total (graphOf s) L k) (pos (column ts (edgeAt (graphOf s) k .to))))
 
+-- instance: u is below a; where a is 0 (unlimited) u is 0
 abbrev pub instanceTest : ℕ → ℕ → Bool
 instanceTest zero u = eqb u 0
 instanceTest (suc a) u = ltb u (suc a)
@@ -79,15 +87,19 @@ clashTest s L ts us i j =
     (both (eqb (opAt s i .resource) (opAt s j .resource))
     (both (ltb 0 (typeOf s i .instances)) (both (eqb (column us i) (column us j)) (eqb (column ts i % L) (column ts j % L)))))
 
+-- start: t is below H, for every operation
 abbrev pub startsTest : Sheet → List ℕ → Bool
 startsTest s ts = upTo (s .«op_count») (λ i. ltb (column ts i) (s .horizon))
 
+-- instance, for every operation with the A of its type
 abbrev pub instancesTest : Sheet → List ℕ → Bool
 instancesTest s us = upTo (s .«op_count») (λ i. instanceTest (typeOf s i .instances) (column us i))
 
+-- rivals with the same instance have different slots
 abbrev pub apartTest : Sheet → ℕ → List ℕ → List ℕ → Bool
 apartTest s L ts us = upTo (s .«op_count») (λ i. upTo (s .«op_count») (λ j. not (clashTest s L ts us i j)))
 
+-- the starts and instances keep every rule of a plan at L
 unfoldable pub planTest : Sheet → ℕ → List ℕ → List ℕ → Bool
 planTest s L ts us = both (startsTest s ts) (both (meetsTest s L ts) (both (instancesTest s us) (apartTest s L ts us)))
 
@@ -99,27 +111,33 @@ instancesBelow s = greatest (s .«op_count») (λ i. typeOf s i .instances)
 unfoldable pub plansTest : Sheet → ℕ → (List ℕ → List ℕ → Bool) → Bool
 plansTest s L p = every (s .«op_count») (s .horizon) (λ ts. every (s .«op_count») (instancesBelow s) (λ us. cond (planTest s L ts us) (p ts us) true))
 
+-- there is no plan at L: the no of question 6
 abbrev pub noPlanTest : Sheet → ℕ → Bool
 noPlanTest s L = plansTest s L (λ ts us. false)
 
+-- a plan at L, and none comes before it in the order of plans
 abbrev pub firstTest : Sheet → ℕ → List ℕ → List ℕ → Bool
 firstTest s L ts us = both (planTest s L ts us) (plansTest s L (λ ts' us'. lexThen ts ts' (lexThen us us' true)))
 
 -- ---- the resource bound, by a count that computes
 
+-- how many i below n have f: the number that `tally` gives
 unfoldable pub count : ℕ → (ℕ → Bool) → ℕ
 count zero f = 0
 count (suc n) f = count n f + bit (f n)
 
+-- the resource bound (ResMII), by that count
 abbrev pub boundOf : Sheet → ℕ
 boundOf s = greatest (s .«type_count») (λ r. shareOf (count (s .«op_count») (λ i. eqb (opAt s i .resource) r)) (typeAt s r .instances))
 
 -- ---- bad closed walks
 
+-- the edges lead from i to j, each where the one before it ended
 unfoldable pub chainTest : Graph → ℕ → List ℕ → ℕ → Bool
 chainTest g i [] j = eqb i j
 chainTest g i (k ∷ ks) j = both (ltb k (g .«edge_count»)) (both (eqb (edgeAt g k .from) i) (chainTest g (edgeAt g k .to) ks j))
 
+-- a bad closed walk at L: non-empty, back where it began, and its totals sum to more than 0
 abbrev pub badTest : Graph → ℕ → List ℕ → Bool
 badTest g L [] = false
 badTest g L (k ∷ ks) = both (chainTest g (edgeAt g k .from) (k ∷ ks) (edgeAt g k .from)) (ltZ (pos 0) (sum g L (k ∷ ks)))

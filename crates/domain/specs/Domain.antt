@@ -11,9 +11,11 @@ use lib.ListN.{getD}
 abbrev pub has : List Bool → ℕ → Bool
 has row t = getD row t false
 
+-- the row of operation i; past the last row no start is allowed
 abbrev pub rowOf : List (List Bool) → ℕ → List Bool
 rowOf ok i = getD ok i []
 
+-- entry v of a vector, 0 past its end
 abbrev pub val : List ℕ → ℕ → ℕ
 val l v = getD l v 0
 
@@ -54,14 +56,17 @@ pub record FirstIn (Plan : (ℕ → ℕ) → Type 0) (n : ℕ) (ok : List (List 
 
 -- ---- rows
 
+-- r is the flag b of start t where t is below x, else false
 pub record Under (b : Bool) (t x : ℕ) (r : Bool) : Type 0 where
   pub yes : r ≡ true → (b ≡ true) × (t < x)
   pub back : b ≡ true → t < x → r ≡ true
 
+-- r is the flag b of start t where t is of class s modulo m (slot s, where m is the interval), else false
 pub record InClass (b : Bool) (t s m : ℕ) (r : Bool) : Type 0 where
   pub yes : r ≡ true → (b ≡ true) × (t % m ≡ s)
   pub back : b ≡ true → t % m ≡ s → r ≡ true
 
+-- r is the flag b of start t where t is of another class than s modulo m, else false
 pub record OffClass (b : Bool) (t s m : ℕ) (r : Bool) : Type 0 where
   pub yes : r ≡ true → (b ≡ true) × (t % m ≢ s)
   pub back : b ≡ true → t % m ≢ s → r ≡ true

@@ -13,6 +13,7 @@ use Rattle.laws.specs.Store.{store}
 use Rattle.domain.specs.Domain.{has, rowOf, val, In, Part, Within, Solved, Below, Only, FirstIn, Keeps, Least}
 use Rattle.domain.specs.Split.{within-self, within-trans, within-set, in-set, in-wider}
 
+-- the starts x are a plan's, and the domain d allows them
 pub record Good (Plan : (ℕ → ℕ) → Type 0) (n : ℕ) (d : List (List Bool)) (x : List ℕ) : Type 0 where
   pub inside : In n d (val x)
   pub plan : Plan (val x)

@@ -12,6 +12,7 @@ pub record Meet (resource x : ℕ → ℕ) (l i k : ℕ) : Type 0 where
   pub type : resource i ≡ resource k
   pub slot : x i % l ≡ x k % l
 
+-- r tells whether an operation of type ci, start xi and instance ui meets one of type ck and start xk, and has instance v
 pub record Same (ci ck xi xk l ui v : ℕ) (r : Bool) : Type 0 where
   pub yes : r ≡ true → (ci ≡ ck) × (xi % l ≡ xk % l) × (ui ≡ v)
   pub no : r ≡ false → ci ≡ ck → xi % l ≡ xk % l → ui ≡ v → ⊥

@@ -9,6 +9,7 @@ use Rattle.net.specs.Small.{Small}
 use Rattle.net.specs.declared.Net.{Net}
 use Rattle.laws.specs.Entry.{vec}
 
+-- the edges that the arrays of a net hold
 abbrev pub webOf : Net → Web
 webOf n = record {
   ops = n .ops;
@@ -24,6 +25,7 @@ pub record NetOk (g : Web) : Type 0 where
   pub count-ok : g .count ≤ 96
   pub small : Small g
 
+-- each of the 24 entries of t is at most b
 abbrev pub Below : ℕ → List ℕ → Type 0
 Below b t = (v : ℕ) → v < 24 → vec t v ≤ b
 

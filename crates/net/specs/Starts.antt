@@ -20,6 +20,7 @@ use Rattle.laws.specs.Entry.{vec}
 
 -- ---- a start after an edge
 
+-- r is the greater of the start `to` and the start `from` plus the weight
 pub record Pushed (from : ℕ) (weight : ℤ) (to r : ℕ) : Type 0 where
   pub keeps : to ≤ r
   pub takes : (pos from +ℤ weight) ≤ℤ pos r
@@ -32,6 +33,7 @@ pub record Real (g : Web) (f : ℕ → ℕ) (v z : ℕ) : Type 0 where
   pub is : Walk g u v walk
   pub same : pos z ≡ pos (f u) +ℤ sumOf g walk
 
+-- each start in t is at least what any walk of at most k edges to it asks: the floor f where the walk begins, plus its sum
 pub record Cover (g : Web) (f : ℕ → ℕ) (k : ℕ) (t : List ℕ) : Type 0 where
   pub covers : (u v : ℕ) (p : List ℕ) → v < 24 → length p ≤ k → Walk g u v p → (pos (f u) +ℤ sumOf g p) ≤ℤ pos (vec t v)
 
@@ -144,6 +146,7 @@ cover-next {g} n f k t r c q = record { covers = go }
           sum (pos (vec t (g .from (z .e)))) (g .weight (z .e)),
         ))
 
+-- after k rounds over the floor f each start in t is at least what any walk of at most k edges asks, and exactly what some walk asks
 pub record Stands (g : Web) (f : ℕ → ℕ) (k : ℕ) (t : List ℕ) : Type 0 where
   pub cover : Cover g f k t
   pub real : (v : ℕ) → v < 24 → Real g f v (vec t v)

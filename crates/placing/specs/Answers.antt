@@ -10,6 +10,7 @@ use Rattle.placing.specs.declared.NewTable.{NewTable}
 use Rattle.placing.specs.declared.PlaceAnswer.{PlaceAnswer}
 use Rattle.placing.specs.declared.Outcome.{Outcome}
 
+-- the answers of the service "new placing table" (modulo reservation table), questions 3 and 4; with a refusal too nothing is placed
 pub data NewAt (s : Sheet) (L : ℕ) : NewTable → Type 0 where
   sheet-out-of-range : (InRange s → ⊥) → NewAt s L (record { answer = 3; table = emptyTable })
   no-interval : InRange s → (Interval s L → ⊥) → NewAt s L (record { answer = 4; table = emptyTable })
@@ -25,6 +26,7 @@ pub record Ready (s : Sheet) (L : ℕ) (table : Table) : Type 0 where
   pub interval : Interval s L
   pub consistent : Consistent s L table
 
+-- the answers of the service "placing", in the order of the questions 3, 4, 10, 11, 12 and 13; with 0 the lowest free instance
 pub data PlaceAt (s : Sheet) (L : ℕ) (table : Table) (op start : ℕ) : PlaceAnswer → Type 0 where
   out-of-range : (InRange s → ⊥) → PlaceAt s L table op start (refused 3 table)
   interval-out : InRange s → (Interval s L → ⊥) → PlaceAt s L table op start (refused 4 table)

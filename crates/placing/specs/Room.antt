@@ -9,10 +9,12 @@ use Rattle.plan.specs.Rules.{InstanceAllowed}
 use Rattle.placing.specs.declared.Table.{Table}
 use Rattle.placing.specs.Table.{Untaken, Free, LowestFree}
 
+-- the instances that the rules allow to operation op are those below r
 pub record Room (s : Sheet) (op r : ℕ) : Type 0 where
   pub allowed : (u : ℕ) → u < r → InstanceAllowed s op u
   pub below : (u : ℕ) → InstanceAllowed s op u → u < r
 
+-- r is the lowest instance that no placed rival of op has in the slot, or the limit where there is none below it
 pub record FirstUntaken (s : Sheet) (L : ℕ) (table : Table) (op start limit r : ℕ) : Type 0 where
   pub passed : (u : ℕ) → u < r → Untaken s L table op start u → ⊥
   pub here : r < limit → Untaken s L table op start r

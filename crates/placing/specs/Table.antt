@@ -8,6 +8,7 @@ use Rattle.plan.specs.Rules.{InstanceAllowed, Rivals, Overlap}
 use Rattle.placing.specs.declared.Placement.{Placement}
 use Rattle.placing.specs.declared.Table.{Table}
 
+-- an entry where nothing is placed: start and instance are 0
 abbrev pub nothing : Placement
 nothing = record { placed = false; start = 0; instance = 0 }
 
@@ -15,9 +16,11 @@ nothing = record { placed = false; start = 0; instance = 0 }
 abbrev pub emptyTable : Table
 emptyTable = record { entries = replicate 24 nothing }
 
+-- the entry of operation i; past the table nothing is placed
 abbrev pub placementAt : Table → ℕ → Placement
 placementAt table i = getD (table .entries) i nothing
 
+-- operation i is placed; question 12 asks that it is not
 abbrev pub Placed : Table → ℕ → Type 0
 Placed table i = placementAt table i .placed ≡ true
 
@@ -37,6 +40,7 @@ pub record Taken (s : Sheet) (L : ℕ) (table : Table) (op start u j : ℕ) : Ty
   pub instance : placementAt table j .instance ≡ u
   pub overlap : Overlap s L op start j (placementAt table j .start)
 
+-- no placed rival of op has the instance u in the slot that op has at this start
 abbrev pub Untaken : Sheet → ℕ → Table → ℕ → ℕ → ℕ → Type 0
 Untaken s L table op start u = (j : ℕ) → Taken s L table op start u j → ⊥
 
@@ -44,6 +48,7 @@ Untaken s L table op start u = (j : ℕ) → Taken s L table op start u j → �
 abbrev pub Apart : Sheet → ℕ → Table → ℕ → Type 0
 Apart s L table i = Placed table i → Untaken s L table i (placementAt table i .start) (placementAt table i .instance)
 
+-- the whole of question 10: each entry is allowed, and placed rivals are apart
 pub record Consistent (s : Sheet) (L : ℕ) (table : Table) : Type 0 where
   pub entries : (i : ℕ) → EntryAllowed s i (placementAt table i)
   -- no two placed rivals with one slot and instance

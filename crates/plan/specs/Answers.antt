@@ -13,9 +13,11 @@ use Rattle.plan.specs.declared.IntervalAnswer.{IntervalAnswer}
 use Rattle.plan.specs.Rules.{Plan}
 use Rattle.plan.specs.Order.{Same, Precedes}
 
+-- 24 numbers, all 0
 abbrev pub zeros : List ℕ
 zeros = replicate 24 0
 
+-- the number at place i of a list, 0 past its end
 abbrev pub column : List ℕ → ℕ → ℕ
 column xs i = getD xs i 0
 

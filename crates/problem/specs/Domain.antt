@@ -11,6 +11,7 @@ use Rattle.sheet.specs.Sheet.{InRange}
 use Rattle.sheet.specs.Facts.{horizon-most, ops-most}
 use Rattle.plan.specs.Rules.{StartAllowed}
 
+-- rule "start": t is below H
 pub record InHorizon (horizon t : ℕ) : Type 0 where
   pub inside : t < horizon
 
@@ -18,5 +19,6 @@ pub record InHorizon (horizon t : ℕ) : Type 0 where
 pub record RowFor (s : Sheet) (L i : ℕ) (row : List Bool) : Type 0 where
   pub start : (t : ℕ) → t < 128 → Says (StartAllowed s L i t) (has row t)
 
+-- each row has exactly the starts that its operation allows
 pub record DomainFor (s : Sheet) (L : ℕ) (ok : List (List Bool)) : Type 0 where
   pub row : (i : ℕ) → i < 24 → RowFor s L i (rowOf ok i)

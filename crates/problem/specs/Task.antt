@@ -19,6 +19,7 @@ pub record Clipped (z r : ℤ) : Type 0 where
   pub high : r ≤ℤ pos 128
   pub under : negsuc 16383 ≤ℤ z → r ≤ℤ z
 
+-- a lag from -16384 to 128
 pub record Small (z : ℤ) : Type 0 where
   pub low : negsuc 16383 ≤ℤ z
   pub high : z ≤ℤ pos 128

@@ -6,6 +6,7 @@ use lib.IntN.{ℤ}
 use lib.ListN.{length, replicate}
 use Rattle.scan.specs.Line.{onFields, lineOf}
 
+-- what is found and the bytes after it, or the number of a refusal
 pub data Found (A : Type 0) : Type 0 where
   found : A → List ℕ → Found A
   refused : ℕ → Found A

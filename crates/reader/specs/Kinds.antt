@@ -14,6 +14,7 @@ use Rattle.sheet.specs.Ranges as range
 use Rattle.sheet.specs.Text.{typeLine, opLine, edgeLine}
 use Rattle.reader.specs.Found.{Kind}
 
+-- a and b are both true
 abbrev pub both : Bool → Bool → Bool
 both a b = cond a b false
 
@@ -21,10 +22,11 @@ both a b = cond a b false
 abbrev pub inside : ℕ → ℤ → Bool
 inside field z = both (leZ (range.rangeOf field .low) z) (leZ z (range.rangeOf field .high))
 
--- a line's number at a place, and the same where it carries no minus
+-- a line's number at a place, 0 past its numbers
 abbrev pub valueAt : List ℤ → ℕ → ℤ
 valueAt vs i = getD vs i (pos 0)
 
+-- the same where it carries no minus
 abbrev pub natAt : List ℤ → ℕ → ℕ
 natAt vs i = natAbs (valueAt vs i)
 
@@ -43,18 +45,23 @@ numberKind k field = record {
   inside = λ n. inside field (pos n);
 }
 
+-- `horizon=H`
 abbrev pub horizonKind : Kind ℕ
 horizonKind = numberKind key.horizonKey range.horizon
 
+-- `cap=M`
 abbrev pub capKind : Kind ℕ
 capKind = numberKind key.capKey range.cap
 
+-- `types=R`
 abbrev pub typesKind : Kind ℕ
 typesKind = numberKind key.typesKey range.types
 
+-- `ops=N`
 abbrev pub opsKind : Kind ℕ
 opsKind = numberKind key.opsKey range.operations
 
+-- `edges=E`
 abbrev pub edgesKind : Kind ℕ
 edgesKind = numberKind key.edgesKey range.edges
 

@@ -41,6 +41,7 @@ sheetFrom bs =
 abbrev pub refusal : ℕ → ReadAnswer
 refusal n = record { answer = n; sheet = sheetOf 0 0 [] [] [] }
 
+-- questions 1 to 3 got a yes: 0 and the sheet
 abbrev pub accepted : Sheet → ReadAnswer
 accepted s = record { answer = 0; sheet = s }
 
@@ -50,5 +51,6 @@ toTheEnd (found s []) = accepted s
 toTheEnd (found s (b ∷ bs)) = refusal 2
 toTheEnd (refused n) = refusal n
 
+-- the answer to reading these bytes: question 1, at most 4,096 of them, comes before any line
 unfoldable pub readOf : List ℕ → ReadAnswer
 readOf bs = cond (ltb 4096 (length bs)) (refusal 1) (toTheEnd (sheetFrom bs))

@@ -11,6 +11,7 @@ use Rattle.reader.specs.Found.{Found, found, refused, padded}
 unfoldable pub seen : {A : Type 0} → List ℕ → ℕ → A → ℕ → Found A
 seen s answer a next = cond (eqb answer 0) (found a (drop next s)) (refused answer)
 
+-- what the code has is what the definition `want` finds, and its place lies within the bytes
 pub record Reads {A : Type 0} (s : List ℕ) (answer : ℕ) (a : A) (next : ℕ) (want : Found A) : Type 0 where
   pub same : seen s answer a next ≡ want
   pub within : next ≤ length s

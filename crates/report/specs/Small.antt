@@ -20,6 +20,7 @@ use Rattle.plan.specs.Answers.{zeros, column, PlanAt, Padded, ZeroFrom, First, 
 abbrev pub SmallList : List ℕ → Type 0
 SmallList xs = (i : ℕ) → column xs i ≤ 999
 
+-- the numbers that are printed of a plan's answer have at most three digits, and at most 24 operations have a line
 pub record Small (s : Sheet) (L : ℕ) (a : PlanAnswer) : Type 0 where
   pub answer : a .answer ≤ 999
   pub interval : L ≤ 999

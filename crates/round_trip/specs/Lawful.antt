@@ -20,6 +20,7 @@ use Rattle.reader.specs.Kinds.{numberKind, typeKind, opKind, edgeKind}
 use Rattle.reader.specs.Decide.{one-flag, inside-says, type-says, op-says, edge-says}
 use Rattle.reader.specs.Steps.{plain-nat}
 
+-- entry and numbers of a kind of line give each other back, and an entry in its ranges has numbers that a line can have
 pub record Lawful {A : Type 0} (k : Kind A) : Type 0 where
   pub size : (a : A) → length (k .values a) ≡ k .count
   pub back : (a : A) → k .make (k .values a) ≡ a

@@ -17,13 +17,15 @@ use Rattle.reader.specs.Steps.{line-in, line-inside, no-found}
 use Rattle.round_trip.specs.All.{All}
 use Rattle.round_trip.specs.Lawful.{Lawful}
 
--- the line of an entry, its text, and the text of several
+-- the line of an entry
 abbrev pub entryLine : {A : Type 0} → Kind A → A → Line
 entryLine k a = record { key = k .key; values = k .values a }
 
+-- the text of that line
 abbrev pub entryText : {A : Type 0} → Kind A → A → List ℕ
 entryText k a = lineText (k .key) (k .values a)
 
+-- the texts of the lines of several entries, one after the other
 abbrev pub entriesText : {A : Type 0} → Kind A → List A → List ℕ
 entriesText k es = linesText (map (entryLine k) es)
 

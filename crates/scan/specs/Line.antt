@@ -14,10 +14,12 @@ use Rattle.scan.specs.declared.Place.the-variants.{After, Missing}
 
 -- ---- the key
 
+-- the bytes after a key, or that the key is missing
 pub data Rest : Type 0 where
   after : List ℕ → Rest
   missing : Rest
 
+-- f of the bytes after the key, or o where the key is missing
 abbrev pub onRest : {A : Type 0} → Rest → (List ℕ → A) → A → A
 onRest (after bs) f o = f bs
 onRest missing f o = o
@@ -44,6 +46,7 @@ pub data Fields : Type 0 where
   fields : List ℤ → List ℕ → Fields
   bad : Fields
 
+-- f of a line's numbers and what follows its line feed, or o where there is no such line
 abbrev pub onFields : {A : Type 0} → Fields → (List ℤ → List ℕ → A) → A → A
 onFields (fields vs rest) f o = f vs rest
 onFields bad f o = o
@@ -68,10 +71,12 @@ dueLine key k minus bs = cond (lineCount k) (lineOf key k minus bs) bad
 
 -- ---- what is found at a place of the bytes s
 
+-- the bytes from the place after the key on, or that the key is missing
 unfoldable pub seenPlace : List ℕ → Place → Rest
 seenPlace s (After p) = after (drop p s)
 seenPlace s Missing = missing
 
+-- the place after the key lies within s
 unfoldable pub withinPlace : List ℕ → Place → Type 0
 withinPlace s (After p) = p ≤ length s
 withinPlace s Missing = Unit {0}
@@ -80,9 +85,11 @@ withinPlace s Missing = Unit {0}
 unfoldable pub seenLine : List ℕ → ℕ → Line → Fields
 seenLine s k l = cond (l .ok) (fields (take k (l .values)) (drop (l .next) s)) bad
 
+-- a line's number at place i, 0 past the end
 abbrev pub valueAt : Line → ℕ → ℤ
 valueAt l i = getD (l .values) i (pos 0)
 
+-- 8 numbers, all 0
 abbrev pub zeros : List ℤ
 zeros = replicate 8 (pos 0)
 

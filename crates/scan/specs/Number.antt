@@ -34,6 +34,7 @@ pub data Num : Type 0 where
   value : ℕ → List ℕ → Num
   malformed : Num
 
+-- f of a number and what follows it, or o where there is no number
 abbrev pub onNumber : {A : Type 0} → Num → (ℕ → List ℕ → A) → A → A
 onNumber (value n rest) f o = f n rest
 onNumber malformed f o = o
@@ -46,6 +47,7 @@ moreDigits v (b ∷ bs) =
     (λ d. cond (eqb v 0) malformed (cond (ltb 999 v) malformed (moreDigits (v * 10 + d) bs)))
     (value v (b ∷ bs))
 
+-- the number at the front of the bytes: it has at least one digit
 unfoldable pub number : List ℕ → Num
 number [] = malformed
 number (b ∷ bs) = digitOr (classOf b) (λ d. moreDigits d bs) malformed
@@ -57,10 +59,12 @@ pub data Signed : Type 0 where
   int : ℤ → List ℕ → Signed
   none : Signed
 
+-- f of a whole number and what follows it, or o where there is none
 abbrev pub onInt : {A : Type 0} → Signed → (ℤ → List ℕ → A) → A → A
 onInt (int v rest) f o = f v rest
 onInt none f o = o
 
+-- minus n where the flag is true, else n
 abbrev pub signedOf : Bool → ℕ → ℤ
 signedOf true n = negℤ (pos n)
 signedOf false n = pos n
@@ -76,20 +80,24 @@ wholeOf false bs = signedNumber false bs
 wholeOf true [] = signedNumber false []
 wholeOf true (b ∷ bs) = cond (eqb b 45) (signedNumber true bs) (signedNumber false (b ∷ bs))
 
--- ---- what is found at a place of the bytes s: the value and what follows it, and that place and value are in bounds
+-- ---- what is found at a place of the bytes s
 
+-- a number and the bytes from the place after it on, or that there is none
 unfoldable pub seen : List ℕ → Number → Num
 seen s (Value v p) = value v (drop p s)
 seen s Malformed = malformed
 
+-- the place after a number lies within s, and the number has at most four digits
 unfoldable pub within : List ℕ → Number → Type 0
 within s (Value v p) = (p ≤ length s) × (v ≤ 9999)
 within s Malformed = Unit {0}
 
+-- a whole number and the bytes from the place after it on, or that there is none
 unfoldable pub seenWhole : List ℕ → Whole → Signed
 seenWhole s (Int v p) = int v (drop p s)
 seenWhole s None = none
 
+-- the place after a whole number lies within s, and the number has at most four digits
 unfoldable pub withinWhole : List ℕ → Whole → Type 0
 withinWhole s (Int v p) = (p ≤ length s) × (natAbs v ≤ 9999)
 withinWhole s None = Unit {0}

@@ -20,6 +20,7 @@ use Rattle.scan.specs.declared.Class.the-variants.{Digit}
 
 -- ---- the numbers that a line can have
 
+-- the number is below 0
 abbrev pub isNegative : ℤ → Bool
 isNegative (pos n) = false
 isNegative (negsuc n) = true

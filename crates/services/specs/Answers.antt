@@ -17,6 +17,7 @@ use Rattle.plan.specs.Answers.{zeros, column, Padded, ZeroFrom}
 abbrev pub walkRefused : ℕ → loops.BadWalk
 walkRefused n = record { answer = n; «loop_length» = 0; «loop_edges» = zeros }
 
+-- the same for the earliest starts
 abbrev pub startsRefused : ℕ → starts.Starts
 startsRefused n = record { answer = n; starts = zeros; «loop_length» = 0; «loop_edges» = zeros }
 

@@ -14,9 +14,11 @@ pub data Order (a b : ℕ) : ℕ → Type 0 where
   first : a < b → Order a b 1
   second : b < a → Order a b 2
 
+-- the number of a refusal, and 0 for the order
 abbrev pub refused : ℕ → SlotOrder
 refused n = record { answer = n; order = 0 }
 
+-- the answers of the service "slot order" for a pair number, in the order of the questions 3 to 6, 14 and 15
 pub data SlotOrderAt (s : Sheet) (L pair : ℕ) : SlotOrder → Type 0 where
   -- 3 to 6: the plan's own refusal
   no-plan : (p : PlanAnswer) → PlanAt s L p → (p .answer ≡ 0 → ⊥) → SlotOrderAt s L pair (refused (p .answer))

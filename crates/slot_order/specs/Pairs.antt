@@ -20,10 +20,12 @@ pub record Pair (n pair i j : ℕ) : Type 0 where
 
 -- ---- the table
 
+-- the constant of 01: the first pair number for each j, and at 24 the number of all pairs
 abbrev pub firstPairs : List ℕ
 firstPairs =
     0 ∷ 0 ∷ 1 ∷ 3 ∷ 6 ∷ 10 ∷ 15 ∷ 21 ∷ 28 ∷ 36 ∷ 45 ∷ 55 ∷ 66 ∷ 78 ∷ 91 ∷ 105 ∷ 120 ∷ 136 ∷ 153 ∷ 171 ∷ 190 ∷ 210 ∷ 231 ∷ 253 ∷ 276 ∷ []
 
+-- the first pair number for j
 abbrev pub firstPair : ℕ → ℕ
 firstPair j = getD firstPairs j 0
 
@@ -82,6 +84,7 @@ pair-below {n} {pair} {i} {j} h p = subst (λ (x : ℕ). pair < x) (rule n (omeg
 
 -- ---- the later operation of a pair, by the table
 
+-- the pair is one of those with j as the later operation: from the first pair number for j to below that for j + 1
 pub record Between (pair j : ℕ) : Type 0 where
   pub some : 1 ≤ j
   pub most : j < 24

@@ -12,6 +12,7 @@ pub record Far (z : ℤ) : Type 0 where
   pub low : negsuc 999999 ≤ℤ z
   pub high : z ≤ℤ pos 1000000
 
+-- r is z where that is 0 to 128, else the nearer of the two
 pub record Clip (z : ℤ) (r : ℕ) : Type 0 where
   pub within : r ≤ 128
   pub low : (x : ℕ) → z ≤ℤ pos x → r ≤ x
@@ -26,13 +27,16 @@ pub record LowEnd (t : ℕ) (lag : ℤ) (r : ℕ) : Type 0 where
 pub record HighEnd (t : ℕ) (lag : ℤ) (r : ℕ) : Type 0 where
   pub high : (x : ℕ) → x < 128 → (pos x +ℤ lag) ≤ℤ pos t → x < r
 
+-- where start t is still allowed (b), no start x with t + lag ≤ x is below r
 pub record LowIf (b : Bool) (t : ℕ) (lag : ℤ) (r : ℕ) : Type 0 where
   pub within : r ≤ 128
   pub when : b ≡ true → LowEnd t lag r
 
+-- where start t is still allowed (b), each start x with x + lag ≤ t is below r
 pub record HighIf (b : Bool) (t : ℕ) (lag : ℤ) (r : ℕ) : Type 0 where
   pub when : b ≡ true → HighEnd t lag r
 
+-- r is a where b is true, else `later`
 pub record Earlier (b : Bool) (a later r : ℕ) : Type 0 where
   pub yes : b ≡ true → r ≡ a
   pub no : b ≡ false → r ≡ later
@@ -46,6 +50,7 @@ pub record Supported (q row : List Bool) (there back : ℤ) (r : List Bool) : Ty
   pub was : Part r row
   pub stays : (x t : ℕ) → x < 128 → t < 128 → has q x ≡ true → has row t ≡ true → (pos x +ℤ there) ≤ℤ pos t → (pos t +ℤ back) ≤ℤ pos x → has r t ≡ true
 
+-- the same for every row q of which `next` is right: entry k is no more than any start of q that is at least k
 pub record SupportedBy (next : List ℕ) (row : List Bool) (there back : ℤ) (r : List Bool) : Type 0 where
   pub by : (q : List Bool) → NextFrom q 0 next → Supported q row there back r
 

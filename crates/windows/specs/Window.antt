@@ -26,6 +26,7 @@ nearW ty t l r s w i = cond (eqb (ty i) r) (ltb (off l s (t i % l)) w) false
 abbrev pub insideB : (ℕ → ℕ) → (ℕ → ℕ) → ℕ → ℕ → ℕ → Bool
 insideB ty ρ r w i = cond (eqb (ty i) r) (leb (ρ i) w) false
 
+-- 1 where an operation of this type and reach is of type r and reaches at most w, else 0
 abbrev pub insideBit : ℕ → ℕ → ℕ → ℕ → ℕ
 insideBit type reach r w = bit (cond (eqb type r) (leb reach w) false)
 
@@ -33,6 +34,7 @@ insideBit type reach r w = bit (cond (eqb type r) (leb reach w) false)
 pub record SlotRow (l : ℕ) (row r : List Bool) : Type 0 where
   pub slot : (t : ℕ) → t < 128 → has row t ≡ true → has r (t % l) ≡ true
 
+-- the same where the operation is of the type (`same`)
 pub record SlotIf (same : Bool) (l : ℕ) (row r : List Bool) : Type 0 where
   pub when : same ≡ true → SlotRow l row r
 
@@ -40,23 +42,29 @@ pub record SlotIf (same : Bool) (l : ℕ) (row r : List Bool) : Type 0 where
 pub record Slotted (n l : ℕ) (ty : ℕ → ℕ) (r : ℕ) (ok z : List (List Bool)) : Type 0 where
   pub each : (i : ℕ) → i < n → ty i ≡ r → SlotRow l (rowOf ok i) (rowOf z i)
 
+-- r is true where a or b is
 pub record Either (a b r : Bool) : Type 0 where
   pub one : a ≡ true → r ≡ true
   pub two : b ≡ true → r ≡ true
 
+-- the row r has the slots of u and, where the operation is of the type (`same`), those of `row`
 pub record Merged (same : Bool) (u row r : List Bool) : Type 0 where
   pub old : (b : ℕ) → b < 64 → has u b ≡ true → has r b ≡ true
   pub new : same ≡ true → (b : ℕ) → b < 64 → has row b ≡ true → has r b ≡ true
 
+-- `used` has each slot of each operation of type r
 pub record UsedBy (n : ℕ) (ty : ℕ → ℕ) (r : ℕ) (z : List (List Bool)) (used : List Bool) : Type 0 where
   pub all : (i : ℕ) → i < n → ty i ≡ r → (b : ℕ) → b < 64 → has (rowOf z i) b ≡ true → has used b ≡ true
 
+-- each slot of the row is below r
 pub record FarRow (l : ℕ) (row : List Bool) (r : ℕ) : Type 0 where
   pub far : (b : ℕ) → b < l → has row b ≡ true → b < r
 
+-- each slot of operation i is less than its reach after slot s
 pub record Reach (n l s : ℕ) (z : List (List Bool)) (reach : List ℕ) : Type 0 where
   pub each : (i : ℕ) → i < n → (b : ℕ) → b < l → has (rowOf z i) b ≡ true → off l s b < val reach i
 
+-- the reach r from the next slot on: l where the slot left behind is one of the operation's (b), else at least the old reach less 1
 pub record StepOne (b : Bool) (l old r : ℕ) : Type 0 where
   pub yes : b ≡ true → r ≡ l
   pub no : b ≡ false → old ≤ r + 1
@@ -74,6 +82,7 @@ pub record Fits (n : ℕ) (ty : ℕ → ℕ) (l r s : ℕ) (used : List Bool) (r
 pub record Barred (n : ℕ) (ty : ℕ → ℕ) (l a r s : ℕ) (used : List Bool) (reach : List ℕ) (fail : Bool) (bar : List ℕ) : Type 0 where
   pub safe : (t : ℕ → ℕ) → Room n ty l a r t → Fits n ty l r s used reach t → (fail ≡ false) × ((i : ℕ) → i < n → ty i ≡ r → val bar i ≤ off l s (t i % l))
 
+-- a window that takes cap operations takes r with one slot more: a more where the type uses that slot
 pub record More (cap a : ℕ) (used : Bool) (r : ℕ) : Type 0 where
   pub yes : used ≡ true → r ≡ cap + a
   pub no : used ≡ false → r ≡ cap
@@ -82,6 +91,7 @@ pub record More (cap a : ℕ) (used : Bool) (r : ℕ) : Type 0 where
 pub record Raised (n : ℕ) (full : Bool) (bar : List ℕ) (ty : ℕ → ℕ) (reach : List ℕ) (r w : ℕ) (out : List ℕ) : Type 0 where
   pub each : (i : ℕ) → i < n → (val out i ≡ val bar i) ⊎ ((full ≡ true) × (ty i ≡ r) × (w < val reach i) × (val out i ≡ w))
 
+-- the same for one operation, which is of the type where `same` is true
 pub record RaiseOne (full same : Bool) (bar reach w r : ℕ) : Type 0 where
   pub which : (r ≡ bar) ⊎ ((full ≡ true) × (same ≡ true) × (w < reach) × (r ≡ w))
 
@@ -89,6 +99,7 @@ pub record RaiseOne (full same : Bool) (bar reach w r : ℕ) : Type 0 where
 pub record Cuts (same r : Bool) : Type 0 where
   pub only : r ≡ true → same ≡ true
 
+-- r has the flag b of a start that is at least bar away (`far`), and no flag that was not there
 pub record Past (b : Bool) (far bar : ℕ) (r : Bool) : Type 0 where
   pub yes : r ≡ true → b ≡ true
   pub back : b ≡ true → bar ≤ far → r ≡ true
@@ -98,6 +109,7 @@ pub record Trimmed (same : Bool) (bar s l : ℕ) (row r : List Bool) : Type 0 wh
   pub was : Part r row
   pub stays : (t : ℕ) → t < 128 → has row t ≡ true → (same ≡ true → bar ≤ off l s (t % l)) → has r t ≡ true
 
+-- `out` allows no start anew, and loses no starts of d in which the slot of each operation of type r is at least its bar after s
 pub record Drained (n : ℕ) (ty : ℕ → ℕ) (r s l : ℕ) (bar : List ℕ) (d out : List (List Bool)) : Type 0 where
   pub within : Within n out d
   pub stays : (t : ℕ → ℕ) → In n d t → ((i : ℕ) → i < n → ty i ≡ r → val bar i ≤ off l s (t i % l)) → In n out t

@@ -17,9 +17,11 @@ use Rattle.sheet.specs.declared.ResourceType.{ResourceType}
 use Rattle.sheet.specs.Sheet.{noType, noOperation, typeAt, opAt, edgeAt}
 use Rattle.sheet.specs.Text.{Line, linesText, countLine, typeLine, opLine, edgeLine, sheetLines}
 
+-- the text of one line
 abbrev pub lineTextOf : Line → List ℕ
 lineTextOf l = lineText (l .key) (l .values)
 
+-- what stands past the lines
 abbrev pub noLine : Line
 noLine = record { key = []; values = [] }
 
