@@ -140,7 +140,7 @@ shown (refuses-walk s L ks) e =
     let ok = sheet-is s (a .0) in
     let iv = interval-is s L (b .0) in
     let w = first-walk-is (graphOf s) L ks (c .1) in
-    bad-walk ok iv w (record { whole = padded-length ks (leb-true (length ks) 24 (c .0)); front = padded-at ks (24 - length ks) })
+    bad-walk ok iv w (record { whole = padded-length ks (leb-true (length ks) 24 (c .0)); fits = leb-true (length ks) 24 (c .0); front = padded-at ks (24 - length ks) })
     (infeasible-exactly (graphOf s) L (graph-in-range ok) (interval-in-range ok iv) .no-starts ks (w .bad))
 shown (refuses-plan s L ts) e =
     let a = both-true (sheetTest s) (both (intervalTest s L) (both (meetsTest s L ts) (noPlanTest s L))) e in

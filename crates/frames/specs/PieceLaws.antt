@@ -5,14 +5,12 @@ use mathlib.Core.List.{List, [], _∷_}
 use Prim.Native.Nat.{ℕ, zero, suc, _+_, _≤_, _<_}
 use native.Mathlib.Nat.{zero-add, suc-add}
 use native.Mathlib.Omega.{arith}
-use lib.IntN.{ℤ, pos, negsuc, natAbs}
+use lib.IntN.{ℤ, pos, negsuc}
 use lib.Signed.{_<ℤ_}
 use lib.ListN.{length, take, drop, getD, length-drop}
 use lib.Seq.{slice, getD-take, drop-drop, take-nil}
 use borrow.Author.Tests.{le-leb, lt-leb}
-use mir.Syntax.{w32}
-use mir.Val.{SFits}
-use Rattle.laws.specs.Z.{zed, fits-show}
+use Rattle.laws.specs.Z.{zed}
 use Rattle.scan.specs.Line.{Fields, fields, bad, dueLine, onFields, seenLine, valueAt}
 use Rattle.scan.specs.declared.Line.{Line}
 use Rattle.frames.specs.Piece.{Piece, piece, none, key, sized, pieceOf, FrameFits}
@@ -54,8 +52,3 @@ unfolding sized
 enough m n s h =
     ap₂ piece (middle m n s) (sym (drop-drop n m s))
     ∙ (rw (le-leb n (length (drop m s)) (omega (arith, length-drop m s))))
-
--- a number of at most four digits is kept in an `i32`
-pub four-digits : (z : ℤ) → natAbs z ≤ 9999 → SFits w32 z
-four-digits (pos n) h = fits-show (omega arith) (omega arith)
-four-digits (negsuc n) h = fits-show (omega arith) (omega arith)

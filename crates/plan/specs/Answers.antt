@@ -28,6 +28,7 @@ refused n = record { answer = n; starts = zeros; instances = zeros; «loop_lengt
 -- a list of 24 numbers that holds xs and 0 past its end
 pub record Padded (xs ys : List ℕ) : Type 0 where
   pub whole : length ys ≡ 24
+  pub fits : length xs ≤ 24
   pub front : (i : ℕ) → column ys i ≡ column xs i
 
 -- 24 numbers, 0 from the place n on

@@ -29,7 +29,7 @@ use Rattle.instances.specs.Seats.{Seats, Meet}
 use Rattle.instances.specs.SeatLaws.{Rival, seats-lowest, seats-below, seats-apart, seats-zero}
 use Rattle.problem.specs.Domain.{DomainFor}
 use Rattle.problem.specs.Task.{TaskFor}
-use Rattle.problem.specs.Ready.{task-ok, task-meets, meets-task}
+use Rattle.problem.specs.Ready.{op-in, task-ok, task-meets, meets-task}
 
 says-true : {P : Type 0} (r : Bool) → Says P r → P → r ≡ true
 says-true true s p = refl
@@ -41,9 +41,6 @@ pub record Cut (n : ℕ) (x y : List ℕ) : Type 0 where
   pub back : ZeroFrom n y
 
 module _ (s : Sheet) (L : ℕ) (table : List (List ℤ)) (p : Task) (ok : InRange s) (iv : Interval s L) (f : TaskFor s L table p) where
-  op-in : {i : ℕ} → i < p .ops → i < s .«op_count»
-  op-in h = omega (arith, f .ops-are)
-
   op-of : {i : ℕ} → i < s .«op_count» → i < p .ops
   op-of h = omega (arith, f .ops-are)
 
@@ -73,14 +70,14 @@ module _ (s : Sheet) (L : ℕ) (table : List (List ℤ)) (p : Task) (ok : InRang
         below : (i : ℕ) → i < p .ops → task.held (task.typeOf p) t (p .interval) r k i ≡ true → u i < task.instancesOf p r
         below i h e =
             let z = ap (task.instancesOf p) (holds i e .0) in
-            let w = limit-of i (op-in h) in
-            omega (arith, q .instance i (op-in h) .limited (omega arith))
+            let w = limit-of i (op-in f h) in
+            omega (arith, q .instance i (op-in f h) .limited (omega arith))
 
         apart : (i j : ℕ) → i < j → j < p .ops → task.held (task.typeOf p) t (p .interval) r k i ≡ true → task.held (task.typeOf p) t (p .interval) r k j ≡ true → u i ≡ u j → ⊥
         apart i j l h e d same =
             let m = holds i e in
             let n = holds j d in
-            q .apart i j (op-in (omega arith)) (op-in h) (rivals i j l (op-in h) (m .0 ∙ sym (n .0)) (subst (λ (v : ℕ). 0 < task.instancesOf p v) (sym (n .0)) a)) same (slots (t i) (t j) (m .1 ∙ sym (n .1)))
+            q .apart i j (op-in f (omega arith)) (op-in f h) (rivals i j l (op-in f h) (m .0 ∙ sym (n .0)) (subst (λ (v : ℕ). 0 < task.instancesOf p v) (sym (n .0)) a)) same (slots (t i) (t j) (m .1 ∙ sym (n .1)))
 
     pub plan-of : task.PlanOf p t
     plan-of = record { met = meets-task s L table p ok iv f t (q .dependence); room = room }
@@ -124,8 +121,8 @@ module _ (s : Sheet) (L : ℕ) (table : List (List ℤ)) (p : Task) (ok : InRang
     pub instances-first : (t' u' : ℕ → ℕ) → Plan s L t' u' → Same (s .«op_count») (val x) t' → Before (p .ops) (val u) u'
     instances-first t' u' o e = lowest-first (Rival p (val x)) (λ k. u' k + 1) (val u) (p .ops) (seats-lowest p x u seats) u' (record {
       below = λ k h. omega arith;
-      apart = λ i k l h m same. o .apart i k (op-in (omega arith)) (op-in h) (rivals i k l (op-in h) (m .0 .type) (m .1)) same
-          (sym (ap (λ (v : ℕ). v % L) (e i (op-in (omega arith)))) ∙ slots (val x i) (val x k) (m .0 .slot) ∙ ap (λ (v : ℕ). v % L) (e k (op-in h)));
+      apart = λ i k l h m same. o .apart i k (op-in f (omega arith)) (op-in f h) (rivals i k l (op-in f h) (m .0 .type) (m .1)) same
+          (sym (ap (λ (v : ℕ). v % L) (e i (op-in f (omega arith)))) ∙ slots (val x i) (val x k) (m .0 .slot) ∙ ap (λ (v : ℕ). v % L) (e k (op-in f h)));
     })
 
   -- ---- the domain
@@ -134,11 +131,11 @@ module _ (s : Sheet) (L : ℕ) (table : List (List ℤ)) (p : Task) (ok : InRang
     pub in-domain : (t : ℕ → ℕ) → ((i : ℕ) → i < s .«op_count» → StartAllowed s L i (t i)) → In (p .ops) dom t
     in-domain t a = record {
       small = λ i h. small i h;
-      allowed = λ i h. says-true _ (d .row i (omega (arith, op-in h, ops-most ok)) .start (t i) (small i h)) (a i (op-in h));
+      allowed = λ i h. says-true _ (d .row i (omega (arith, op-in f h, ops-most ok)) .start (t i) (small i h)) (a i (op-in f h));
     }
       where
         small : (i : ℕ) → i < p .ops → t i < 128
-        small i h = omega (arith, a i (op-in h) .inHorizon, horizon-most ok)
+        small i h = omega (arith, a i (op-in f h) .inHorizon, horizon-most ok)
 
     pub of-domain : (t : ℕ → ℕ) → In (p .ops) dom t → (i : ℕ) → i < s .«op_count» → StartAllowed s L i (t i)
     of-domain t n i h = d .row i (omega (arith, ops-most ok)) .start (t i) (n .small i (op-of h)) .yes (n .allowed i (op-of h))
@@ -151,13 +148,13 @@ module _ (s : Sheet) (L : ℕ) (table : List (List ℤ)) (p : Task) (ok : InRang
 
       module _ (e : found ≡ true) (y u w : List ℕ) (cy : Cut (s .«op_count») x y) (seats : Seats p y u) (cw : Cut (s .«op_count») u w) where
         plan-y : task.PlanOf p (val y)
-        plan-y = laws.plan-local p (task-ok s L table p ok iv f) (val x) (val y) (λ i h. cy .front i (op-in h)) (r .plan e)
+        plan-y = laws.plan-local p (task-ok s L table p ok iv f) (val x) (val y) (λ i h. cy .front i (op-in f h)) (r .plan e)
 
         allowed-y : (i : ℕ) → i < s .«op_count» → StartAllowed s L i (val y i)
         allowed-y i h = subst (StartAllowed s L i) (cy .front i h) (of-domain (val x) (r .inside e) i h)
 
         before-less : {a b : ℕ → ℕ} → Before (p .ops) a b → Same (s .«op_count») a b ⊎ Less (s .«op_count») a b
-        before-less o = ⊎-elim (λ z. inl (λ i h. z i (op-of h))) (λ z. inr (record { at = z .0; within = op-in (z .1); equal = z .3; less = z .2 })) (o .case)
+        before-less o = ⊎-elim (λ z. inl (λ i h. z i (op-of h))) (λ z. inr (record { at = z .0; within = op-in f (z .1); equal = z .3; less = z .2 })) (o .case)
 
         less-left : {a b c : ℕ → ℕ} → Same (s .«op_count») a b → Less (s .«op_count») a c → Less (s .«op_count») b c
         less-left z l = record { at = l .at; within = l .within; equal = λ i h. sym (z i (omega (arith, l .within))) ∙ l .equal i h; less = omega (arith, z (l .at) (l .within), l .less) }

@@ -27,10 +27,11 @@ total-is n i h (total-three _ _ q) = absurd (q (n, h))
 total-is n i h (total-four _ _ _ _ q) = absurd (q i)
 total-is n i h (total-found _ _ _ _ e) = e
 
-module _ (s : Sheet) (L : ℕ) (table : List (List ℤ)) (p : Task) (ok : InRange s) (iv : Interval s L) (f : TaskFor s L table p) where
-  op-in : {i : ℕ} → i < p .ops → i < s .«op_count»
+module _ {s : Sheet} {L : ℕ} {table : List (List ℤ)} {p : Task} (f : TaskFor s L table p) where
+  pub op-in : {i : ℕ} → i < p .ops → i < s .«op_count»
   op-in h = omega (arith, f .ops-are)
 
+module _ (s : Sheet) (L : ℕ) (table : List (List ℤ)) (p : Task) (ok : InRange s) (iv : Interval s L) (f : TaskFor s L table p) where
   edge-in : {e : ℕ} → e < p .edges → e < s .«edge_count»
   edge-in h = omega (arith, f .edges-are)
 
@@ -52,7 +53,7 @@ module _ (s : Sheet) (L : ℕ) (table : List (List ℤ)) (p : Task) (ok : InRang
     from-ok = λ e h. omega (arith, f .ops-are, f .edges-for .source e (edge-in h), ok .eachEdge e (edge-in h) .from);
     to-ok = λ e h. omega (arith, f .ops-are, f .edges-for .target e (edge-in h), ok .eachEdge e (edge-in h) .to);
     total-ok = λ e h. subst Near (sym (f .edges-for .sum e (edge-in h))) (near e (edge-in h));
-    type-ok = λ i h. omega (arith, f .types-for .type i (op-in h), ok .eachOp i (op-in h), types-most ok);
+    type-ok = λ i h. omega (arith, f .types-for .type i (op-in f h), ok .eachOp i (op-in f h), types-most ok);
     instances-ok = λ r h. limit-small r (decLt r (s .«type_count»));
   }
 
@@ -78,12 +79,12 @@ module _ (s : Sheet) (L : ℕ) (table : List (List ℤ)) (p : Task) (ok : InRang
     -- a lag is at least -16384: starts are not negative
     cell-low : (i j : ℕ) → i < p .ops → j < p .ops → negsuc 16383 ≤ℤ cell table i j
     cell-low i j h k =
-        let r = l .rows i (op-in h) in
-        subst (λ (z : ℤ). negsuc 16383 ≤ℤ z) (sym (r .lag j (op-in k))) (omega (arith, zed, minus (pos (r .starts j)) (pos 16384)))
+        let r = l .rows i (op-in f h) in
+        subst (λ (z : ℤ). negsuc 16383 ≤ℤ z) (sym (r .lag j (op-in f k))) (omega (arith, zed, minus (pos (r .starts j)) (pos 16384)))
 
     keeps : (t : ℕ → ℕ) → PlanOf p t → ((i : ℕ) → i < p .ops → t i < 128) → (i j : ℕ) → i < p .ops → j < p .ops → (pos (t i) +ℤ lagOf p i j) ≤ℤ pos (t j)
     keeps t q small i j h k =
-        let d = lags-hold (graphOf s) L table l i j (op-in h) (op-in k) t (task-meets t q) (omega (arith, small i h)) in
+        let d = lags-hold (graphOf s) L table l i j (op-in f h) (op-in f k) t (task-meets t q) (omega (arith, small i h)) in
         let u = clip i j h k .under (cell-low i j h k) in
         omega (arith, zed, d, u, sum (pos (t i)) (cell table i j), sum (pos (t i)) (lagOf p i j))
 

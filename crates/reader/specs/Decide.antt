@@ -7,7 +7,6 @@ use native.Mathlib.Omega.{arith}
 use lib.Dec.{ltb}
 use lib.IntN.{ℤ, pos}
 use lib.Signed.{leZ, _≤ℤ_}
-use borrow.Author.Tests.{ltb-true, ltb-false}
 use Rattle.laws.specs.Z.{leZ-true, leZ-false, true-leZ, true-false}
 use Rattle.dependence.specs.declared.Edge.{Edge}
 use Rattle.dependence.specs.Graph.{Says, yes-says, no-says}
@@ -15,7 +14,7 @@ use Rattle.sheet.specs.declared.Operation.{Operation}
 use Rattle.sheet.specs.declared.ResourceType.{ResourceType}
 use Rattle.sheet.specs.Ranges as range
 use Rattle.sheet.specs.Sheet.{TypeInRange, EdgeInRange}
-use Rattle.sheet.specs.Tests.{last}
+use Rattle.sheet.specs.Tests.{last, lt-says}
 use Rattle.reader.specs.Found.{Kind}
 use Rattle.reader.specs.Kinds.{both, inside, typeKind, opKind, edgeKind}
 
@@ -29,9 +28,6 @@ one-flag {a = false} {b = false} s t = refl
 pub both-says : {P Q : Type 0} {a b : Bool} → Says P a → Says Q b → Says (P × Q) (both a b)
 both-says {a = true} s t = record { yes = λ e. (s .yes refl, t .yes e); no = λ e x. t .no e (x .1) }
 both-says {a = false} s t = no-says (λ x. s .no refl (x .0))
-
-lt-says : (a b : ℕ) → Says (a < b) (ltb a b)
-lt-says a b = record { yes = λ e. ltb-true a b e; no = λ e h. absurd (let k = ltb-false a b e in omega arith) }
 
 le-says : (a b : ℤ) → Says (a ≤ℤ b) (leZ a b)
 le-says a b = record { yes = λ e. leZ-true a b e; no = λ e h. true-false (sym (true-leZ h) ∙ e) }

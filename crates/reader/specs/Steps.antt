@@ -15,7 +15,7 @@ use lib.Signed.{nonNeg}
 use mir.Syntax.{w32, w64}
 use mir.Val.{SFits, Fits, toZ, ofZ}
 use borrow.Author.Tests.{not-true, not-false, eq-eqb, ne-eqb}
-use Rattle.laws.specs.Z.{kept, true-false}
+use Rattle.laws.specs.Z.{kept, true-false, four-digits}
 use Rattle.scan.specs.declared.Line.{Line}
 use Rattle.scan.specs.Line.{Fields, fields, bad, lineOf, seenLine, LineFits}
 use Rattle.scan.specs.Bytes.{by-test}
@@ -27,10 +27,6 @@ use Rattle.reader.specs.Found.{Found, found, refused, Kind, lineFrom, li
 use Rattle.reader.specs.Seen.{seen, Reads, Filled, Refuses, Entries}
 
 -- ---- numbers of a line
-
-small-fits : (v : ℤ) → natAbs v ≤ 9999 → SFits w32 v
-small-fits (pos n) h = record { sfits = omega arith }
-small-fits (negsuc n) h = record { sfits = omega arith }
 
 -- a number that is not at the place of the minus is not negative
 writable-plain : (minus i j : ℕ) (vs : List ℤ) → Writable minus i vs → (i + j ≡ minus → ⊥) → isNegative (getD vs j (pos 0)) ≡ false
@@ -90,7 +86,7 @@ module _ {A : Type 0} (k : Kind A) (s bs : List ℕ) (l : Line) (e : seenLine s 
 
     -- a number is read back from its bits
     pub value-at : (i : ℕ) → i < k .count → toZ w32 (ofZ w32 (getD (l .values) i (pos 0))) ≡ getD (take (k .count) (l .values)) i (pos 0)
-    value-at i h = kept (small-fits (getD (l .values) i (pos 0)) (fits .small i)) ∙ sym (getD-take (k .count) (l .values) i (pos 0) h)
+    value-at i h = kept (four-digits (getD (l .values) i (pos 0)) (fits .small i)) ∙ sym (getD-take (k .count) (l .values) i (pos 0) h)
 
     not-negative : (i : ℕ) → i < k .count → (i ≡ k .minus → ⊥) → isNegative (getD (l .values) i (pos 0)) ≡ false
     not-negative i h n =
@@ -102,13 +98,13 @@ module _ {A : Type 0} (k : Kind A) (s bs : List ℕ) (l : Line) (e : seenLine s 
         → T (nonNeg (toZ w32 (ofZ w32 (getD (l .values) i (pos 0))))) × Fits w64 (natAbs (toZ w32 (ofZ w32 (getD (l .values) i (pos 0)))))
     cast-at i h n =
         let v = getD (l .values) i (pos 0) in
-        let q : toZ w32 (ofZ w32 (getD (l .values) i (pos 0))) ≡ getD (l .values) i (pos 0) = kept (small-fits v (fits .small i)) in
+        let q : toZ w32 (ofZ w32 (getD (l .values) i (pos 0))) ≡ getD (l .values) i (pos 0) = kept (four-digits v (fits .small i)) in
         rw q (plain v (fits .small i) (not-negative i h n))
 
     pub nat-at : (i : ℕ) → i < k .count → (i ≡ k .minus → ⊥) → toZ w32 (ofZ w32 (getD (l .values) i (pos 0))) ≡ pos (natAbs (toZ w32 (ofZ w32 (getD (l .values) i (pos 0)))))
     nat-at i h n =
         let v = getD (l .values) i (pos 0) in
-        let q : toZ w32 (ofZ w32 (getD (l .values) i (pos 0))) ≡ getD (l .values) i (pos 0) = kept (small-fits v (fits .small i)) in
+        let q : toZ w32 (ofZ w32 (getD (l .values) i (pos 0))) ≡ getD (l .values) i (pos 0) = kept (four-digits v (fits .small i)) in
         rw q (plain-nat v (not-negative i h n))
 
     module _ (a : A) (made : a ≡ k .make (take (k .count) (l .values))) where

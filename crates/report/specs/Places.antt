@@ -99,10 +99,3 @@ take-map (suc n) (e ∷ es) = ap (λ (l : List ℤ). pos e ∷ l) (take-map n es
 pub loop-text : (n : ℕ) (es : List ℕ) (vs : List ℤ) → length es ≡ 24 → length vs ≡ 24 → ((k : ℕ) → k < 24 → getD vs k (pos 0) ≡ pos (getD es k 0))
     → textOf (record { key = 10; count = n; values = vs }) ≡ lineText (keyOf 10) (map pos (take n es))
 loop-text n es vs l m e = line-text 10 n vs (map pos (take n es)) (ap (take n) (numbers-are es vs l m e) ∙ take-map n es)
-
--- lines and more lines
-pub lines-append : (xs ys : List Line) → linesText (xs ++ ys) ≡ linesText xs ++ linesText ys
-unfolding linesText
-lines-append [] ys = refl
-lines-append (x ∷ xs) ys =
-    ap (λ (l : List ℕ). lineText (x .key) (x .values) ++ l) (lines-append xs ys) ∙ sym (append-assoc (lineText (x .key) (x .values)) (linesText xs) (linesText ys))

@@ -8,7 +8,6 @@ use lib.ListN.{take}
 use lib.IntN.{pos}
 use Rattle.text.specs.Keys as key
 use Rattle.sheet.specs.declared.Sheet.{Sheet}
-use Rattle.sheet.specs.Sheet.{InRange}
 use Rattle.sheet.specs.Text.{Line, countLine}
 use Rattle.reader.specs.Read.{readOf}
 use Rattle.plan.specs.declared.PlanAnswer.{PlanAnswer}
@@ -52,12 +51,7 @@ pub data Run (s : Sheet) : ℕ → List Line → Type 0 where
   stops : {L : ℕ} {a : PlanAnswer} → L ≤ s .cap → PlanAt s L a → a .answer ≡ 0 → Run s L (intervalLines s L a)
   goes-on : {L : ℕ} {a : PlanAnswer} {ls : List Line} → L ≤ s .cap → PlanAt s L a → (a .answer ≡ 0 → ⊥) → Run s (suc L) ls → Run s L (intervalLines s L a ++ ls)
 
--- a sheet handed over as numbers: question 3, and then its intervals from 1 up
-pub data Told (s : Sheet) : List Line → Type 0 where
-  out-of-range : (InRange s → ⊥) → Told s (answerLine 3 ∷ [])
-  told : InRange s → {ls : List Line} → Run s 1 ls → Told s ls
-
--- the bytes of a sheet: a refused one prints its answer line only
+-- the bytes of a sheet: a refused one prints its answer line only, an accepted one its intervals from 1 up
 pub data Printed (bytes : List ℕ) : List Line → Type 0 where
   refused : (readOf bytes .answer ≡ 0 → ⊥) → Printed bytes (answerLine (readOf bytes .answer) ∷ [])
-  read : readOf bytes .answer ≡ 0 → {ls : List Line} → Told (readOf bytes .sheet) ls → Printed bytes ls
+  read : readOf bytes .answer ≡ 0 → {ls : List Line} → Run (readOf bytes .sheet) 1 ls → Printed bytes ls

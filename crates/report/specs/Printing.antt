@@ -13,11 +13,11 @@ use Rattle.text.specs.Line.{writtenOf}
 use Rattle.text.specs.Writing.{length-over, over-none, extend, part-back, part-length, pasted}
 use Rattle.sheet.specs.declared.Sheet.{Sheet}
 use Rattle.sheet.specs.Text.{Line, linesText}
+use Rattle.sheet.specs.TextLaws.{lines-append}
 use Rattle.plan.specs.declared.PlanAnswer.{PlanAnswer}
 use Rattle.plan.specs.Answers.{PlanAt}
 use Rattle.plan.specs.Unique.{plan-at-unique}
-use Rattle.report.specs.Print.{intervalLines, answerLine, Run, none, stops, goes-on, Told, out-of-range, told, Printed, refused, read}
-use Rattle.report.specs.Places.{lines-append}
+use Rattle.report.specs.Print.{intervalLines, answerLine, Run, none, stops, goes-on, Printed, refused, read}
 
 pub run-unique : {s : Sheet} {L : ℕ} {ls ms : List Line} → Run s L ls → Run s L ms → ls ≡ ms
 run-unique (none a) (none b) = refl
@@ -64,17 +64,11 @@ pub record Reported (bytes old : List ℕ) (r : Written) (new : List ℕ) : Type
   pub answer : r ≡ writtenOf (linesText lines) old
   pub buffer : new ≡ bufferOf (linesText lines) old
 
-told-unique : {s : Sheet} {ls ms : List Line} → Told s ls → Told s ms → ls ≡ ms
-told-unique (out-of-range a) (out-of-range b) = refl
-told-unique (out-of-range a) (told b _) = absurd (a b)
-told-unique (told a _) (out-of-range b) = absurd (b a)
-told-unique (told a p) (told b q) = run-unique p q
-
 printed-unique : {bytes : List ℕ} {ls ms : List Line} → Printed bytes ls → Printed bytes ms → ls ≡ ms
 printed-unique (refused a) (refused b) = refl
 printed-unique (refused a) (read b _) = absurd (a b)
 printed-unique (read a _) (refused b) = absurd (b a)
-printed-unique (read a p) (read b q) = told-unique p q
+printed-unique (read a p) (read b q) = run-unique p q
 
 -- at most one answer and one buffer fit
 pub once : {bytes old : List ℕ} {r r′ : Written} {new new′ : List ℕ} → Reported bytes old r new → Reported bytes old r′ new′ → (r ≡ r′) × (new ≡ new′)

@@ -1,4 +1,4 @@
--- Law: a reading's refusal is at most 3.
+-- Laws: a reading's refusal is at most 3, and a sheet that was read is in range.
 -- Assumes nothing.
 use mathlib.Core.Path.{_≡_, refl, sym, ap, subst}
 use mathlib.Core.Bool.{Bool, true, false, cond}
@@ -10,9 +10,12 @@ use lib.IntN.{ℤ}
 use lib.ListN.{length}
 use Rattle.scan.specs.Line.{onFields, lineOf, Fields, fields, bad}
 use Rattle.sheet.specs.declared.Sheet.{Sheet}
+use Rattle.sheet.specs.Sheet.{InRange}
+use Rattle.reader.specs.declared.ReadAnswer.{ReadAnswer}
 use Rattle.reader.specs.Found.{Found, found, refused, andThen, Kind, lineFrom, linesFrom, sectionFrom}
 use Rattle.reader.specs.Kinds.{horizonKind, capKind, typesKind, opsKind, edgesKind, typeKind, opKind, edgeKind}
 use Rattle.reader.specs.Read.{sheetFrom, refusal, toTheEnd, readOf}
+use Rattle.round_trip.specs.RoundTrip.{only-text}
 
 abbrev Fine : {A : Type 0} → Found A → Type 0
 Fine (found a rest) = Unit {0}
@@ -65,3 +68,6 @@ long-fine false bs = end-fine (sheetFrom bs) (sheet-fine bs)
 pub read-small : (bs : List ℕ) → readOf bs .answer ≤ 999
 unfolding readOf
 read-small bs = long-fine (ltb 4096 (length bs)) bs
+
+pub read-in-range : (bs : List ℕ) → readOf bs .answer ≡ 0 → InRange (readOf bs .sheet)
+read-in-range bs z = let a = only-text bs z in subst InRange (sym (ap (λ (r : ReadAnswer). r .sheet) (a .result))) (a .inRange)

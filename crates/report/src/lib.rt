@@ -6,7 +6,7 @@ ghost use lib.ListN.{length};
 ghost use Rattle.text.specs.Text.{over};
 ghost use Rattle.sheet.specs.Sheet.{InRange};
 ghost use Rattle.sheet.specs.Text.{linesText};
-ghost use Rattle.report.specs.Print.{answerLine, Run, Told, Printed};
+ghost use Rattle.report.specs.Print.{answerLine, Run, Printed};
 ghost use Rattle.report.specs.PlanText.{PlanText};
 ghost use Rattle.report.specs.Printing.{Put, Reported};
 use sheet::Sheet;
@@ -66,17 +66,6 @@ fn run(out: &mut [u8], sheet: Sheet) -> usize
     at + put_answer(&mut out[at..], 7)
 }
 
-// What leastplan prints for a sheet handed over as numbers.
-fn tell(out: &mut [u8], sheet: Sheet) -> usize
-    requires { ⌜ 8192 ≤ length (now out) ⌝ }
-    ensures { λ r. ⌜ Put (Told sheet) (now (out .entry)) (now (out .exit)) r ⌝ }
-{
-    if !sheet::in_range(sheet) {
-        return put_answer(out, 3);
-    }
-    run(out, sheet)
-}
-
 // What leastplan prints for the bytes of a sheet.
 fn print(out: &mut [u8], bytes: &[u8]) -> usize
     requires { ⌜ 8192 ≤ length (now out) ⌝ }
@@ -88,7 +77,7 @@ fn print(out: &mut [u8], bytes: &[u8]) -> usize
         return put_answer(out, answer);
     }
     let sheet = read.sheet;
-    tell(out, sheet)
+    run(out, sheet)
 }
 
 // All that leastplan prints, at the front of `out`, and its count of bytes; 9 where it does not fit, and then `out` stays as it was.

@@ -23,6 +23,7 @@ use Rattle.sheet.specs.Facts.{most}
 use Rattle.sheet.specs.Ranges as range
 use Rattle.sheet.specs.Sheet.{noType, noOperation, TypeInRange, EdgeInRange, InRange}
 use Rattle.sheet.specs.Text.{Line, linesText, countLine, typeLine, opLine, edgeLine, sheetLines, sheetText}
+use Rattle.sheet.specs.TextLaws.{lines-append}
 use Rattle.reader.specs.declared.ReadAnswer.{ReadAnswer}
 use Rattle.reader.specs.Found.{Found, found, refused, Kind, lineFrom, sectionFrom, padded}
 use Rattle.reader.specs.Kinds.{horizonKind, capKind, typesKind, opsKind, edgesKind, typeKind, opKind, edgeKind}
@@ -45,12 +46,6 @@ listsText horizon cap r types n ops m edges =
     entryText typesKind r ++ (entriesText typeKind types ++ (
     entryText opsKind n ++ (entriesText (opKind r) ops ++ (
     entryText edgesKind m ++ entriesText (edgeKind n) edges))))))
-
-lines-append : (xs ys : List Line) → linesText (xs ++ ys) ≡ linesText xs ++ linesText ys
-unfolding linesText
-lines-append [] ys = refl
-lines-append (x ∷ xs) ys =
-    ap (λ (l : List ℕ). lineText (x .key) (x .values) ++ l) (lines-append xs ys) ∙ sym (append-assoc (lineText (x .key) (x .values)) (linesText xs) (linesText ys))
 
 sheet-lists : (s : Sheet)
     → sheetText s

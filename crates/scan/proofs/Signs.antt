@@ -12,7 +12,7 @@ use mir.Syntax.{w32}
 use mir.Val.{SFits, toZ, ofZ}
 use mir.Facts.{toZ-ofZ}
 use borrow.Author.Tests.{eq-eqb, ne-eqb}
-use Rattle.laws.specs.Z.{true-false}
+use Rattle.laws.specs.Z.{true-false, four-digits}
 use Rattle.scan.specs.Number.{value, malformed, number, Signed, int, none, signedOf, signedNumber, wholeOf, seenWhole, withinWhole}
 use Rattle.scan.specs.declared.Whole.{Whole}
 use Rattle.scan.specs.declared.Whole.the-variants.{Int, None}
@@ -34,12 +34,8 @@ sub-fits z h = rw (minus z) (neg-fits z h)
 pub neg-bits : (z : ℤ) → natAbs z ≤ 9999 → toZ w32 (ofZ w32 (pos 0 -ℤ z)) ≡ negℤ z
 neg-bits z h = ap (λ (x : ℤ). toZ w32 (ofZ w32 x)) (minus z) ∙ toZ-ofZ (neg-fits z h)
 
-small-fits : (z : ℤ) → natAbs z ≤ 9999 → SFits w32 z
-small-fits (pos n) h = record { sfits = omega arith }
-small-fits (negsuc n) h = record { sfits = omega arith }
-
 pub small-bits : (z : ℤ) → natAbs z ≤ 9999 → toZ w32 (ofZ w32 z) ≡ z
-small-bits z h = toZ-ofZ (small-fits z h)
+small-bits z h = toZ-ofZ (four-digits z h)
 
 pub mag-signed : (g : Bool) (n : ℕ) → natAbs (signedOf g n) ≡ n
 mag-signed false n = refl

@@ -11,6 +11,7 @@ use lib.Dec.{eqb, ltb}
 use lib.ListN.{length, length-append}
 use borrow.Author.Tests.{ne-eqb, lt-ltb, le-ltb, ltb-true, ltb-false, eqb-false}
 use Rattle.text.specs.Text.{tens, digits}
+use Rattle.text.specs.Decimal.{tens-length}
 use Rattle.scan.specs.Number.{Num, value, malformed, classOf, digitOr, moreDigits, number}
 use Rattle.scan.specs.Bytes.{by-test, class-digit, digit-byte}
 use Rattle.scan.specs.declared.Class.{Class}
@@ -47,15 +48,6 @@ four n h = omega arith
 -- a number of at most four digits
 pub digits-four : (n : ℕ) → n ≤ 9999 → digits n ≡ tens 3 n
 digits-four n h = tens-room 6 3 n (four n h)
-
--- at most k + 1 digits
-pub tens-length : (k n : ℕ) → length (tens k n) ≤ k + 1
-unfolding tens
-tens-length zero n = omega arith
-tens-length (suc k) n =
-    by-test (ltb n 10)
-    (λ t. rw t (omega arith))
-    (λ t. let a = tens-length k (n / 10) in let b = length-append (tens k (n / 10)) ((48 + n % 10) ∷ []) in rw t (omega arith))
 
 pub digits-length : (n : ℕ) → n ≤ 9999 → length (digits n) ≤ 4
 digits-length n h = let a = tens-length 3 n in let b = ap length (digits-four n h) in omega arith
@@ -132,8 +124,8 @@ pub record Canonical (bs : List ℕ) (n : ℕ) (rest : List ℕ) : Type 0 where
   pub small : n ≤ 9999
   pub ends : Ends rest
 
-refused : {n : ℕ} {rest : List ℕ} → malformed ≡ value n rest → ⊥
-refused e = let z : _≡_ {A = ℕ} 0 1 = cc in omega arith
+pub no-value : {n : ℕ} {rest : List ℕ} → malformed ≡ value n rest → ⊥
+no-value e = let z : _≡_ {A = ℕ} 0 1 = cc in omega arith
 
 -- the number ends before the bytes rest
 ended : (v : ℕ) (bs : List ℕ) (n : ℕ) (rest : List ℕ) → v ≤ 9999 → Ends bs → value v bs ≡ value n rest → Canonical (digits v ++ bs) n rest
@@ -150,9 +142,9 @@ unfolding moreDigits
 at-byte (Digit d) v b bs n rest k hv ih e =
     let db = digit-byte b d k in
     by-test (eqb v 0)
-    (λ t. let z : _≡_ {A = Num} malformed (value n rest) = simp (k, t) at e in absurd (refused z))
+    (λ t. let z : _≡_ {A = Num} malformed (value n rest) = simp (k, t) at e in absurd (no-value z))
     (λ t. by-test (ltb 999 v)
-    (λ u. let z : _≡_ {A = Num} malformed (value n rest) = simp (k, t, u) at e in absurd (refused z))
+    (λ u. let z : _≡_ {A = Num} malformed (value n rest) = simp (k, t, u) at e in absurd (no-value z))
     (λ u.
     let lo : (v ≡ 0 → ⊥) = eqb-false v 0 t in
     let hi : v ≤ 999 = ltb-false 999 v u in
@@ -178,11 +170,11 @@ first-byte (Digit d) b bs n rest k e =
     let db = digit-byte b d k in
     let r : Canonical (digits d ++ bs) n rest = canonical-more d bs n rest (omega arith) (simp k at e) in
     record { text = ap (λ (x : ℕ). x ∷ bs) (db .0) ∙ ap (λ (l : List ℕ). l ++ bs) (sym (one-digit 8 d (db .1))) ∙ r .text; small = r .small; ends = r .ends }
-first-byte Minus b bs n rest k e = absurd (refused (simp k at e))
-first-byte Comma b bs n rest k e = absurd (refused (simp k at e))
-first-byte LineFeed b bs n rest k e = absurd (refused (simp k at e))
-first-byte Other b bs n rest k e = absurd (refused (simp k at e))
+first-byte Minus b bs n rest k e = absurd (no-value (simp k at e))
+first-byte Comma b bs n rest k e = absurd (no-value (simp k at e))
+first-byte LineFeed b bs n rest k e = absurd (no-value (simp k at e))
+first-byte Other b bs n rest k e = absurd (no-value (simp k at e))
 
 pub canonical : (bs : List ℕ) (n : ℕ) (rest : List ℕ) → number bs ≡ value n rest → Canonical bs n rest
-canonical [] n rest e = let z : malformed ≡ value n rest = (unfold number in e) in absurd (refused z)
+canonical [] n rest e = let z : malformed ≡ value n rest = (unfold number in e) in absurd (no-value z)
 canonical (b ∷ bs) n rest e = first-byte (classOf b) b bs n rest refl e

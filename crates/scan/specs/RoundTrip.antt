@@ -14,7 +14,7 @@ use Rattle.text.specs.Text.{digits, signedText, endOf, joined, lineText}
 use Rattle.scan.specs.Number.{Num, value, malformed, classOf, number, Signed, int, none, signedOf, signedNumber, wholeOf}
 use Rattle.scan.specs.Line.{Rest, after, missing, stripped, fieldOf, Fields, fields, bad, fieldsFrom, lineOf}
 use Rattle.scan.specs.Bytes.{by-test}
-use Rattle.scan.specs.Digits.{Ends, reads-digits, canonical}
+use Rattle.scan.specs.Digits.{Ends, no-value, reads-digits, canonical}
 use Rattle.scan.specs.declared.Class.{Class}
 use Rattle.scan.specs.declared.Class.the-variants.{Digit}
 
@@ -52,9 +52,6 @@ strip-text (c ∷ cs) (b ∷ bs) rest e =
     (λ t. let z : missing ≡ after rest = simp t at e in let o : _≡_ {A = ℕ} 0 1 = cc in absurd (omega arith))
 
 -- ---- a number with its sign
-
-no-value : {n : ℕ} {rest : List ℕ} → malformed ≡ value n rest → ⊥
-no-value e = let z : _≡_ {A = ℕ} 0 1 = cc in omega arith
 
 no-int : {v : ℤ} {rest : List ℕ} → none ≡ int v rest → ⊥
 no-int e = let z : _≡_ {A = ℕ} 0 1 = cc in omega arith

@@ -6,8 +6,8 @@ use mathlib.Core.List.{List}
 use Prim.Native.Nat.{ℕ, _+_, _-_, _<_, _≤_}
 use native.Mathlib.Omega.{arith}
 use native.Mathlib.Decide.{decLt, ℕ-discrete}
-use lib.ListN.{getD, length, take, drop, length-take, List·getD-eq-default}
-use lib.Seq.{slice, getD-take, length-take-le}
+use lib.ListN.{length}
+use lib.Seq.{slice}
 use lib.IntN.{ℤ, pos}
 use Rattle.dependence.specs.declared.Graph.{Graph}
 use Rattle.dependence.specs.Graph as dependence
@@ -20,7 +20,8 @@ use Rattle.sheet.specs.Facts.{graph-in-range, interval-in-range, ops-least, ops
 use Rattle.plan.specs.declared.PlanAnswer.{PlanAnswer}
 use Rattle.plan.specs.declared.IntervalAnswer.{IntervalAnswer}
 use Rattle.plan.specs.Rules.{Plan}
-use Rattle.plan.specs.Answers.{column, zeros, refused, First, PlanAt, Padded, ZeroFrom, Least, out-of-range, no-interval, bad-walk, denied, given, least}
+use Rattle.plan.specs.Answers.{column, zeros, refused, First, PlanAt, Least, out-of-range, no-interval, bad-walk, denied, given, least}
+use Rattle.plan.specs.Loops.{loop-length, loop-padded}
 use Rattle.domain.specs.Domain.{FirstIn}
 use Rattle.task.specs.declared.Task.{Task}
 use Rattle.task.specs.Plan.{PlanOf}
@@ -43,16 +44,9 @@ module _ (s : Sheet) (L : ℕ) (ok : InRange s) (iv : Interval s L) where
   walk-answer (walk-four e _ _ _ _) l q = absurd (omega arith)
   walk-answer (walk-none e _ _ _ _ _) l q = absurd (omega arith)
   walk-answer {len = len} {edges = edges} (walk-five e _ _ w) l q =
-      subst (λ (n : ℕ). PlanAt s L (record { answer = 5; starts = zeros; instances = zeros; «loop_length» = n; «loop_edges» = edges })) whole
-      (bad-walk ok iv (w .first) (record { whole = l; front = λ i. front i (decLt i len) })
+      subst (λ (n : ℕ). PlanAt s L (record { answer = 5; starts = zeros; instances = zeros; «loop_length» = n; «loop_edges» = edges })) (loop-length ok l w)
+      (bad-walk ok iv (w .first) (loop-padded ok l w)
       (λ t m. infeasible-exactly (graphOf s) L (graph-in-range ok) (interval-in-range ok iv) .no-starts (slice 0 len edges) (w .first .bad) t m))
-    where
-      whole : length (slice 0 len edges) ≡ len
-      whole = length-take-le len edges (omega (arith, w .few, ops-most ok))
-
-      front : (i : ℕ) → Dec (i < len) → column edges i ≡ column (slice 0 len edges) i
-      front i (yes h) = sym (getD-take len edges i 0 h)
-      front i (no h) = w .past i (omega arith) ∙ sym (List·getD-eq-default (slice 0 len edges) 0 (omega (arith, whole)))
 
   pub walk-free : {a len : ℕ} {edges : List ℕ} → WalkAnswer (graphOf s) L a len edges → (a ≡ 5 → ⊥) → NoBadWalk s L
   walk-free (walk-three _ _ _ n) q = absurd (n (graph-in-range ok))

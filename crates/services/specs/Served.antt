@@ -5,39 +5,27 @@ use Prim.Native.Nat.{ℕ, _<_, _≤_}
 use native.Mathlib.Omega.{arith}
 use native.Mathlib.Decide.{decLt}
 use lib.ListN.{getD, length, List·getD-eq-default}
-use lib.Seq.{slice, getD-take, length-take-le}
 use lib.IntN.{ℤ}
 use Rattle.laws.specs.Store.{all-zero}
 use Rattle.laws.specs.Entry.{vec}
 use Rattle.dependence.specs.Rules.{Earliest}
-use Rattle.dependence.specs.Answer.{Refusal, WalkAnswer, walk-three, walk-four, walk-five, walk-none, StartsAnswer, starts-three, starts-four, starts-five, starts-found, TableAnswer, table-refused, table-bad, table-found, Separations, BoundAnswer, bound-three, bound-eight, bound-found}
+use Rattle.dependence.specs.Answer.{WalkAnswer, walk-three, walk-four, walk-five, walk-none, StartsAnswer, starts-three, starts-four, starts-five, starts-found, TableAnswer, table-refused, table-bad, table-found, Separations, BoundAnswer, bound-three, bound-eight, bound-found}
 use Rattle.dependence.specs.declared.loops.BadWalk as loops
 use Rattle.dependence.specs.declared.starts.Starts as starts
 use Rattle.dependence.specs.declared.bound.Bound as bounds
 use Rattle.sheet.specs.declared.Sheet.{Sheet}
 use Rattle.sheet.specs.Sheet.{InRange, Interval, graphOf}
-use Rattle.sheet.specs.Facts.{graph-in-range, interval-in-range, cap-in-range, ops-most}
-use Rattle.plan.specs.Answers.{zeros, column, Padded, ZeroFrom}
+use Rattle.sheet.specs.Facts.{graph-in-range, interval-in-range, cap-in-range}
+use Rattle.plan.specs.Answers.{zeros, column}
+use Rattle.plan.specs.Loops.{loop-length, loop-padded}
 use Rattle.services.specs.Answers.{walkRefused, startsRefused, WalkAt, walk-first, walk-clear, StartsAt, starts-bad-walk, starts-earliest, SeparationsAt, no-separations, separations-found, RecurrenceAt, bound-none, bound-least}
-
--- the edges of the first bad closed walk, as a list of 24 numbers
-module _ {s : Sheet} (ok : InRange s) {L size : ℕ} {edges : List ℕ} (whole : length edges ≡ 24) (r : Refusal (graphOf s) L size edges) where
-  pub walk-length : length (slice 0 size edges) ≡ size
-  walk-length = length-take-le size edges (omega (arith, r .few, ops-most ok))
-
-  pub walk-padded : Padded (slice 0 size edges) edges
-  walk-padded = record { whole = whole; front = λ i. front i (decLt i size) }
-    where
-      front : (i : ℕ) → Dec (i < size) → column edges i ≡ column (slice 0 size edges) i
-      front i (yes h) = sym (getD-take size edges i 0 h)
-      front i (no h) = r .past i (omega arith) ∙ sym (List·getD-eq-default (slice 0 size edges) 0 (omega (arith, walk-length)))
 
 module _ (s : Sheet) (L : ℕ) (ok : InRange s) (iv : Interval s L) where
   pub walk-at : (w : loops.BadWalk) → length (w .«loop_edges») ≡ 24 → WalkAnswer (graphOf s) L (w .answer) (w .«loop_length») (w .«loop_edges») → WalkAt s L w
   walk-at w l (walk-three _ _ _ n) = absurd (n (graph-in-range ok))
   walk-at w l (walk-four _ _ _ _ n) = absurd (n (interval-in-range ok iv))
   walk-at w l (walk-five a _ _ r) =
-      subst (WalkAt s L) (λ k. record { answer = sym a k; «loop_length» = walk-length ok l r k; «loop_edges» = w .«loop_edges» }) (walk-first ok iv (r .first) (walk-padded ok l r))
+      subst (WalkAt s L) (λ k. record { answer = sym a k; «loop_length» = loop-length ok l r k; «loop_edges» = w .«loop_edges» }) (walk-first ok iv (r .first) (loop-padded ok l r))
   walk-at w l (walk-none a z e _ _ n) =
       subst (WalkAt s L) (λ k. record { answer = sym a k; «loop_length» = sym z k; «loop_edges» = sym e k }) (walk-clear ok iv n)
 
@@ -46,7 +34,7 @@ module _ (s : Sheet) (L : ℕ) (ok : InRange s) (iv : Interval s L) where
   starts-at w lt le (starts-three _ _ _ _ n) = absurd (n (graph-in-range ok, record { within = λ i h. let e = all-zero 24 i in omega arith }))
   starts-at w lt le (starts-four _ _ _ _ _ _ n) = absurd (n (interval-in-range ok iv))
   starts-at w lt le (starts-five a t _ _ _ r) =
-      subst (StartsAt s L) (λ k. record { answer = sym a k; starts = sym t k; «loop_length» = walk-length ok le r k; «loop_edges» = w .«loop_edges» }) (starts-bad-walk ok iv (r .first) (walk-padded ok le r))
+      subst (StartsAt s L) (λ k. record { answer = sym a k; starts = sym t k; «loop_length» = loop-length ok le r k; «loop_edges» = w .«loop_edges» }) (starts-bad-walk ok iv (r .first) (loop-padded ok le r))
   starts-at w lt le (starts-found a z e _ _ _ t rest) =
       subst (StartsAt s L) (λ k. record { answer = sym a k; starts = w .starts; «loop_length» = sym z k; «loop_edges» = sym e k })
       (starts-earliest ok iv (record {

@@ -12,10 +12,10 @@ use mir.Val.{SFits}
 use mir.Facts.{fits-natAbs}
 use borrow.Author.Needs.{needs}
 use borrow.Author.Tests.{not-true, not-false}
-use Rattle.laws.specs.Z.{zed, kept, ltZ-true, ltZ-false, true-false}
+use Rattle.laws.specs.Z.{zed, kept, ltZ-true, ltZ-false, true-false, four-digits}
 use Rattle.scan.specs.Line.{valueAt}
 use Rattle.frames.specs.Piece.{sized, pieceOf, seenPiece, FrameFits}
-use Rattle.frames.specs.PieceLaws.{nowhere, no-line, line-read, negative, too-few, enough, four-digits}
+use Rattle.frames.specs.PieceLaws.{nowhere, no-line, line-read, negative, too-few, enough}
 use Rattle.frames.proofs.next.Statement.{statement}
 use Rattle.frames.proofs.next.Tie as tie
 

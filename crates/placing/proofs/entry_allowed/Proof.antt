@@ -3,8 +3,7 @@
 use native.Mathlib.Omega.{arith}
 use borrow.Author.Tests.{not-true, not-false}
 use Rattle.dependence.specs.Graph.{no-says}
-use Rattle.sheet.specs.Tests.{last}
-use Rattle.rules.specs.Tests.{lt-says, eq-says}
+use Rattle.sheet.specs.Tests.{last, lt-says, eq-says}
 use Rattle.placing.specs.Entries.{empty-allowed, placed-allowed}
 use borrow.Author.Needs.{needs}
 use Rattle.placing.proofs.entry_allowed.Statement.{statement}

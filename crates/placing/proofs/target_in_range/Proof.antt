@@ -2,8 +2,7 @@
 -- Assumes nothing.
 use native.Mathlib.Omega.{arith}
 use Rattle.dependence.specs.Graph.{no-says}
-use Rattle.sheet.specs.Tests.{last}
-use Rattle.rules.specs.Tests.{lt-says}
+use Rattle.sheet.specs.Tests.{last, lt-says}
 use Rattle.placing.proofs.target_in_range.Statement.{statement}
 use Rattle.placing.proofs.target_in_range.Tie as tie
 

@@ -1,14 +1,15 @@
--- `report::print` meets its contract: the refusals of reading, and then what is told of the sheet.
--- From what `read`, `put_answer` and `tell` ensure, and the bound of a reading's refusal.
+-- `report::print` meets its contract: the refusals of reading, and then the intervals of the sheet that was read.
+-- From what `read`, `put_answer` and `run` ensure, the bound of a reading's refusal, and that a sheet read is in range.
 use Prim.Native.Nat.{ℕ}
 use mathlib.Core.Path.{_≡_, sym, ap, subst, _∙_}
 use mathlib.Core.List.{[], _∷_}
 use Rattle.sheet.specs.declared.Sheet.{Sheet}
+use Rattle.sheet.specs.Sheet.{InRange}
 use Rattle.reader.specs.declared.ReadAnswer.{ReadAnswer}
 use Rattle.reader.specs.Read.{readOf}
-use Rattle.report.specs.Print.{answerLine, Told, Printed, refused, read}
+use Rattle.report.specs.Print.{answerLine, Run, Printed, refused, read}
 use Rattle.report.specs.Bounds.{answer-bound}
-use Rattle.report.specs.Reading.{read-small}
+use Rattle.report.specs.Reading.{read-small, read-in-range}
 use Rattle.report.specs.Printing.{Put, weaken}
 use native.Mathlib.Omega.{arith}
 use borrow.Author.Needs.{needs}
@@ -45,8 +46,13 @@ returns c =
       fits = omega arith;
     }
 
-tell-requires : tie.Need-tell-requires
-tell-requires c κs = c .before .before .before .before .before .before .pre
+run-requires : tie.Need-run-requires
+run-requires c κs =
+    let bs = c .before .before .before .before .before .before .args .bytes .now in
+    let r = c .before .before .before .read in
+    let e = ap (λ (x : ReadAnswer). x .answer) (r .ensures) in
+    let g = ap (λ (x : ReadAnswer). x .sheet) (r .ensures) in
+    (subst InRange (sym g) (read-in-range bs (sym e ∙ c .before .before .if1 .left)), c .before .before .before .before .before .before .pre)
 
 same-length-2 : tie.Need-same-length-2
 same-length-2 c = search needs
@@ -56,7 +62,7 @@ returns-2 c =
     let r = c .before .before .before .before .before .before .read in
     let e = ap (λ (x : ReadAnswer). x .answer) (r .ensures) in
     let g = ap (λ (x : ReadAnswer). x .sheet) (r .ensures) in
-    weaken (λ ls t. read (sym e ∙ c .before .before .before .before .before .if1 .left) (subst (λ (s : Sheet). Told s ls) g t)) (c .before .before .tell .ensures)
+    weaken (λ ls t. read (sym e ∙ c .before .before .before .before .before .if1 .left) (subst (λ (s : Sheet). Run s 1 ls) g t)) (c .before .before .run .ensures)
 
 pub print-spec : {M : Type 1} → statement M
 print-spec =
@@ -66,6 +72,6 @@ print-spec =
     put-answer-requires
     same-length
     returns
-    tell-requires
+    run-requires
     same-length-2
     returns-2)

@@ -3,8 +3,7 @@
 use native.Mathlib.Omega.{arith}
 use mathlib.Core.Path.{sym, _∙_}
 use Rattle.dependence.specs.Graph.{no-says}
-use Rattle.sheet.specs.Tests.{last}
-use Rattle.rules.specs.Tests.{lt-says}
+use Rattle.sheet.specs.Tests.{last, lt-says}
 use borrow.Author.Needs.{needs}
 use Rattle.rules.proofs.rivals.Statement.{statement}
 use Rattle.rules.proofs.rivals.Tie as tie

@@ -1,6 +1,6 @@
 -- `rules::slot_of` meets its contract: a remainder by 0 is the number itself.
 -- Assumes nothing.
-use Rattle.rules.specs.Tests.{whole-slot}
+use Rattle.rules.specs.Slots.{whole-slot}
 use borrow.Author.Needs.{needs}
 use Rattle.rules.proofs.slot_of.Statement.{statement}
 use Rattle.rules.proofs.slot_of.Tie as tie
