@@ -10,54 +10,16 @@ do is taken off. Solvers decide feasibility only, and are asked only from the gr
 least interval: below the bounds counting or a loop of edges refuses at once. The product gives the first plan.
 """
 
-import os
 import statistics
-import subprocess
 import sys
 
-HERE = os.path.dirname(os.path.abspath(__file__))
-sys.path.insert(0, os.path.join(HERE, "..", "tests"))
-
 import loops
-import product
+import measure
 import solvers
+from measure import counted, milliseconds, percentile
 from reference import Sheet, resource_bound, sheet_text
-from stored import framed
 
 NOTHING = Sheet(1, 1, [(1, 1)], [0], [])
-
-
-def built():
-    folder = os.path.join(product.ROOT, "target", "tests")
-    os.makedirs(folder, exist_ok=True)
-    out = os.path.join(folder, "times")
-    include = os.path.join(product.ROOT, "include")
-    subprocess.run(
-        ["gcc", "-O2", "-I", include, "-o", out, os.path.join(HERE, "times.c"), product.archive()], check=True
-    )
-    return out
-
-
-def product_times(texts):
-    """For each sheet the list of (interval, answer, seconds)."""
-    done = subprocess.run([built()], input=framed(texts), stdout=subprocess.PIPE, check=True)
-    rows = [[] for _ in texts]
-    for line in done.stdout.decode().splitlines():
-        sheet, interval, answer, nanoseconds = map(int, line.split())
-        rows[sheet].append((interval, answer, nanoseconds / 1e9))
-    return rows
-
-
-def percentile(values, share):
-    ordered = sorted(values)
-    return ordered[min(len(ordered) - 1, int(share * len(ordered)))]
-
-
-def milliseconds(values):
-    if not values:
-        return "-"
-    three = statistics.median(values), percentile(values, 0.95), max(values)
-    return " / ".join("%.3g" % (1000 * v) for v in three)
 
 
 def from_the_bounds(made, rows):
@@ -71,15 +33,18 @@ def from_the_bounds(made, rows):
 
 
 def times(count):
-    print("| family | sheets | intervals | all: median / 95 % / greatest, ms | from the bounds up | the same, ms | over 1 s |")
-    print("|---|---|---|---|---|---|---|")
+    print("| family | sheets | intervals | median / 95 % / greatest, ms | from the bounds up | the same, ms | nodes: 95 % / most | over 1 s |")
+    print("|---|---|---|---|---|---|---|---|")
+    program = measure.times_program()
     for family in loops.FAMILIES:
         made = [loops.sheet_of(family, seed) for seed in range(count)]
-        rows = product_times([sheet_text(s) for s in made])
+        texts = [sheet_text(s) for s in made]
+        rows = measure.rows_of(program, texts, measure.search_nodes(program, texts))
         took = [row[2] for of_sheet in rows for row in of_sheet]
-        hard = [row[2] for _, row in from_the_bounds(made, rows)]
-        cells = family, count, len(took), milliseconds(took), len(hard), milliseconds(hard), sum(t > 1 for t in took)
-        print("| %s | %d | %d | %s | %d | %s | %d |" % cells, flush=True)
+        hard = [row for _, row in from_the_bounds(made, rows)]
+        nodes = counted([row[3] for row in hard if len(row) > 3])
+        cells = family, count, len(took), milliseconds(took), len(hard), milliseconds([row[2] for row in hard]), nodes
+        print("| %s | %d | %d | %s | %d | %s | %s | %d |" % (*cells, sum(t > 1 for t in took)), flush=True)
 
 
 def start_up(solver):
@@ -90,10 +55,10 @@ def beside(count, seed):
     present = [s for s in solvers.SOLVERS if s.installed()]
     base = {s.name: start_up(s) for s in present}
     print("start-up taken off, ms: " + ", ".join("%s %.1f" % (n, 1000 * t) for n, t in base.items()))
+    program = measure.times_program()
     for family in loops.FAMILIES:
         made = [loops.sheet_of(family, seed + k) for k in range(count)]
-        rows = product_times([sheet_text(s) for s in made])
-        asked = from_the_bounds(made, rows)
+        asked = from_the_bounds(made, measure.rows_of(program, [sheet_text(s) for s in made]))
         print("%s: %d questions" % (family, len(asked)))
         print("  leastplan  " + milliseconds([row[2] for _, row in asked]), flush=True)
         for solver in present:

@@ -1,6 +1,6 @@
 /* Times the plan text of each interval that leastplan asks about, through the C archive.
    Standard input: pieces, each a line bytes=N and N bytes of a sheet. Standard output, a line for each
-   interval: sheet, interval, answer, nanoseconds. Standard error: the greatest depth of the stack. */
+   interval: sheet, interval, answer, nanoseconds; 0 or 4 is a sheet's last answer. Standard error: the greatest depth of the stack. */
 #include <pthread.h>
 #include <stdint.h>
 #include <stdio.h>
@@ -28,9 +28,8 @@ static void time_sheet(int number, const uint8_t *sheet, size_t length)
         int64_t began = now();
         uint64_t answer = leastplan_plan_text(sheet, length, interval, text, sizeof text).answer;
         int64_t took = now() - began;
-        if (answer == 4) return;
         printf("%d %d %d %lld\n", number, (int)interval, (int)answer, (long long)took);
-        if (answer == 0) return;
+        if (answer == 0 || answer == 4) return;
     }
 }
 

@@ -10,6 +10,7 @@ use lib.Dec.{eqb, ltb, leb}
 use lib.ListN.{length, replicate, length-replicate, length-append, List·getD-eq-default}
 use lib.IntN.{ℤ, pos}
 use borrow.Author.Tests.{eqb-true, ltb-true, lt-ltb, leb-true, le-leb, not-true}
+use Rattle.laws.specs.Entry.{zeros, vec}
 use Rattle.laws.specs.Z.{true-false}
 use Rattle.laws.specs.Count.{bit, tally, tally-none, tally-more, both-true, both-show}
 use Rattle.laws.specs.Store.{all-zero}
@@ -23,7 +24,7 @@ use Rattle.plan.specs.declared.PlanAnswer.{PlanAnswer}
 use Rattle.plan.specs.Rules.{Plan}
 use Rattle.plan.specs.Resource.{resourceBound, greatest, shareOf}
 use native.Mathlib.Numerals.{add-one}
-use Rattle.plan.specs.Answers.{column, zeros, refused, First, PlanAt, Padded, ZeroFrom, Least, no-interval, bad-walk, denied, given, none, least}
+use Rattle.plan.specs.Answers.{refused, First, PlanAt, Padded, ZeroFrom, Least, no-interval, bad-walk, denied, given, none, least}
 use Rattle.cases.specs.Tests.{both, upTo, lexThen, count, boundOf, sheetTest, meetsTest, planTest, noPlanTest, firstTest, badTest, firstWalkTest}
 use Rattle.cases.specs.Lists.{up-at}
 use Rattle.cases.specs.PlanTest.{sheet-is, meets-is, plan-is, no-plan-is, first-is}
@@ -89,7 +90,7 @@ test (pair-in n p) = ltb p (pairs n)
 
 -- ---- laws
 
-padded-at : (xs : List ℕ) (m i : ℕ) → column (xs ++ replicate m 0) i ≡ column xs i
+padded-at : (xs : List ℕ) (m i : ℕ) → vec (xs ++ replicate m 0) i ≡ vec xs i
 padded-at [] m i = all-zero m i
 padded-at (x ∷ xs) m zero = refl
 padded-at (x ∷ xs) m (suc i) = padded-at xs m i
@@ -100,7 +101,7 @@ padded-length xs h = length-append xs (replicate (24 - length xs) 0) ∙ whole
     whole : length xs + length (replicate {A = ℕ} (24 - length xs) 0) ≡ 24
     whole = omega (arith, length-replicate {A = ℕ} (24 - length xs) 0)
 
-padded-column : (xs : List ℕ) → column xs ≡ column (padded xs)
+padded-column : (xs : List ℕ) → vec xs ≡ vec (padded xs)
 padded-column xs = λ k i. sym (padded-at xs (24 - length xs) i) k
 
 padded-zero : (n : ℕ) (xs : List ℕ) → length xs ≡ n → n ≤ 24 → ZeroFrom n (padded xs)
@@ -147,7 +148,7 @@ shown (refuses-plan s L ts) e =
     let b = both-true (intervalTest s L) (both (meetsTest s L ts) (noPlanTest s L)) (a .1) in
     let c = both-true (meetsTest s L ts) (noPlanTest s L) (b .1) in
     let ok = sheet-is s (a .0) in
-    denied ok (interval-is s L (b .0)) (λ i. pos (column ts i)) (meets-is s L ts (c .0)) (no-plan-is s L ok (c .1))
+    denied ok (interval-is s L (b .0)) (λ i. pos (vec ts i)) (meets-is s L ts (c .0)) (no-plan-is s L ok (c .1))
 shown (gives s L ts us) e =
     let a = both-true (sheetTest s) (both (intervalTest s L) (both (eqb (length ts) (s .«op_count»)) (both (eqb (length us) (s .«op_count»)) (firstTest s L ts us)))) e in
     let b = both-true (intervalTest s L) (both (eqb (length ts) (s .«op_count»)) (both (eqb (length us) (s .«op_count»)) (firstTest s L ts us))) (a .1) in
@@ -156,14 +157,14 @@ shown (gives s L ts us) e =
     let ok = sheet-is s (a .0) in
     let lt = eqb-true (length ts) (s .«op_count») (c .0) in
     let lu = eqb-true (length us) (s .«op_count») (d .0) in
-    let f = subst (λ (x : ℕ → ℕ). First s L x (column (padded us))) (padded-column ts) (subst (λ (x : ℕ → ℕ). First s L (column ts) x) (padded-column us) (first-is s L ts us ok lt lu (d .1))) in
+    let f = subst (λ (x : ℕ → ℕ). First s L x (vec (padded us))) (padded-column ts) (subst (λ (x : ℕ → ℕ). First s L (vec ts) x) (padded-column us) (first-is s L ts us ok lt lu (d .1))) in
     given ok (interval-is s L (b .0)) f (padded-zero (s .«op_count») ts lt (ops-most ok)) (padded-zero (s .«op_count») us lu (ops-most ok))
 shown (least-is s L ts us) e =
     let a = both-true (sheetTest s) (both (intervalTest s L) (both (planTest s L ts us) (intervals L (noPlanTest s)))) e in
     let b = both-true (intervalTest s L) (both (planTest s L ts us) (intervals L (noPlanTest s))) (a .1) in
     let c = both-true (planTest s L ts us) (intervals L (noPlanTest s)) (b .1) in
     let ok = sheet-is s (a .0) in
-    least ok (interval-is s L (b .0)) (column ts) (column us) (plan-is s L ts us (c .0)) (λ L' i t u p. at s L ok (c .1) L' i t u p (decLt L' L))
+    least ok (interval-is s L (b .0)) (vec ts) (vec us) (plan-is s L ts us (c .0)) (λ L' i t u p. at s L ok (c .1) L' i t u p (decLt L' L))
   where
     at : (s : Sheet) (L : ℕ) → InRange s → intervals L (noPlanTest s) ≡ true → (L' : ℕ) → Interval s L' → (t u : ℕ → ℕ) → Plan s L' t u → Dec (L' < L) → L ≤ L'
     at s L ok e L' i t u p (yes h) = absurd (no-plan-is s L' ok (below L (noPlanTest s) e L' (i .low) h) t u p)
@@ -179,7 +180,7 @@ shown (recurrence-is s l ts ks) e =
     let ok = sheet-is s (a .0) in
     let iv = interval-is s l (b .0) in
     dependence.bound-found refl (graph-in-range ok) (cap-in-range ok) (iv .low) (iv .high)
-    (λ p w. infeasible-exactly (graphOf s) l (graph-in-range ok) (interval-in-range ok iv) .no-starts p w (λ i. pos (column ts i)) (meets-is s l ts (c .0)))
+    (λ p w. infeasible-exactly (graphOf s) l (graph-in-range ok) (interval-in-range ok iv) .no-starts p w (λ i. pos (vec ts i)) (meets-is s l ts (c .0)))
     (λ i h k. (ks, bad-is (graphOf s) i ks (below l (λ L. badTest (graphOf s) L ks) (c .1) i h k)))
 shown (recurrence-refused s ks) e =
     let a = both-true (sheetTest s) (intervals (suc (s .cap)) (λ L. badTest (graphOf s) L ks)) e in

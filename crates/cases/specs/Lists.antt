@@ -9,10 +9,10 @@ use native.Mathlib.Decide.{ℕ-discrete}
 use lib.Dec.{eqb, ltb}
 use lib.ListN.{getD, length}
 use borrow.Author.Tests.{eqb-true, ltb-true}
+use Rattle.laws.specs.Entry.{vec}
 use Rattle.laws.specs.Z.{true-false}
 use Rattle.laws.specs.Count.{both-true, both-show}
 use Rattle.dependence.specs.Rules.{Before, less, same}
-use Rattle.plan.specs.Answers.{column}
 use Rattle.plan.specs.Order.{Less, Same}
 use Rattle.cases.specs.Tests.{both, upTo, every, lexThen}
 
@@ -30,7 +30,7 @@ unfolding upTo
 up-show zero p h = refl
 up-show (suc n) p h = both-show (upTo n p) (p n) (up-show n p (λ i l. h i (omega arith))) (h n (omega arith))
 
-pub every-at : (n h : ℕ) (p : List ℕ → Bool) → every n h p ≡ true → (xs : List ℕ) → length xs ≡ n → ((i : ℕ) → i < n → column xs i < h) → p xs ≡ true
+pub every-at : (n h : ℕ) (p : List ℕ → Bool) → every n h p ≡ true → (xs : List ℕ) → length xs ≡ n → ((i : ℕ) → i < n → vec xs i < h) → p xs ≡ true
 unfolding every
 every-at zero h p e [] l b = e
 every-at zero h p e (x ∷ xs) l b = absurd (omega arith)
@@ -48,7 +48,7 @@ unfolding listOf
 list-length zero f = refl
 list-length (suc n) f = ap suc (list-length n (λ i. f (suc i)))
 
-pub list-at : (n : ℕ) (f : ℕ → ℕ) → Same n f (column (listOf n f))
+pub list-at : (n : ℕ) (f : ℕ → ℕ) → Same n f (vec (listOf n f))
 unfolding listOf
 list-at zero f i l = absurd (omega arith)
 list-at (suc n) f zero l = refl
@@ -56,14 +56,14 @@ list-at (suc n) f (suc i) l = list-at n (λ j. f (suc j)) i (omega arith)
 
 -- ---- the order
 
-less-tail : (n x y : ℕ) (xs ys : List ℕ) → x ≡ y → Less n (column xs) (column ys) → Less (suc n) (column (x ∷ xs)) (column (y ∷ ys))
+less-tail : (n x y : ℕ) (xs ys : List ℕ) → x ≡ y → Less n (vec xs) (vec ys) → Less (suc n) (vec (x ∷ xs)) (vec (y ∷ ys))
 less-tail n x y xs ys e l = record { at = suc (l .at); within = omega (arith, l .within); equal = at; less = l .less }
   where
-    at : (i : ℕ) → i < suc (l .at) → column (x ∷ xs) i ≡ column (y ∷ ys) i
+    at : (i : ℕ) → i < suc (l .at) → vec (x ∷ xs) i ≡ vec (y ∷ ys) i
     at zero h = e
     at (suc i) h = l .equal i (omega arith)
 
-same-tail : (n x y : ℕ) (xs ys : List ℕ) → x ≡ y → Same n (column xs) (column ys) → Same (suc n) (column (x ∷ xs)) (column (y ∷ ys))
+same-tail : (n x y : ℕ) (xs ys : List ℕ) → x ≡ y → Same n (vec xs) (vec ys) → Same (suc n) (vec (x ∷ xs)) (vec (y ∷ ys))
 same-tail n x y xs ys e s zero h = e
 same-tail n x y xs ys e s (suc i) h = s i (omega arith)
 
@@ -72,7 +72,7 @@ by-flag true f g = f refl
 by-flag false f g = g refl
 
 pub lex-order : (n : ℕ) (xs ys : List ℕ) (b : Bool) → length xs ≡ n → lexThen xs ys b ≡ true
-    → Less n (column xs) (column ys) ⊎ (Same n (column xs) (column ys) × (b ≡ true))
+    → Less n (vec xs) (vec ys) ⊎ (Same n (vec xs) (vec ys) × (b ≡ true))
 unfolding lexThen
 lex-order zero [] ys b l e = inr ((λ i h. absurd (omega arith)), e)
 lex-order (suc n) [] ys b l e = absurd (omega arith)
@@ -80,11 +80,11 @@ lex-order zero (x ∷ xs) ys b l e = absurd (omega arith)
 lex-order (suc n) (x ∷ xs) [] b l e = true-false (sym e)
 lex-order (suc n) (x ∷ xs) (y ∷ ys) b l e = by-flag (ltb x y) first (λ f. rest f (lex-order n xs ys b (omega arith)))
   where
-    first : ltb x y ≡ true → Less (suc n) (column (x ∷ xs)) (column (y ∷ ys)) ⊎ (Same (suc n) (column (x ∷ xs)) (column (y ∷ ys)) × (b ≡ true))
+    first : ltb x y ≡ true → Less (suc n) (vec (x ∷ xs)) (vec (y ∷ ys)) ⊎ (Same (suc n) (vec (x ∷ xs)) (vec (y ∷ ys)) × (b ≡ true))
     first t = inl (record { at = 0; within = omega arith; equal = λ i h. absurd (omega arith); less = ltb-true x y t })
 
-    rest : ltb x y ≡ false → (lexThen xs ys b ≡ true → Less n (column xs) (column ys) ⊎ (Same n (column xs) (column ys) × (b ≡ true)))
-        → Less (suc n) (column (x ∷ xs)) (column (y ∷ ys)) ⊎ (Same (suc n) (column (x ∷ xs)) (column (y ∷ ys)) × (b ≡ true))
+    rest : ltb x y ≡ false → (lexThen xs ys b ≡ true → Less n (vec xs) (vec ys) ⊎ (Same n (vec xs) (vec ys) × (b ≡ true)))
+        → Less (suc n) (vec (x ∷ xs)) (vec (y ∷ ys)) ⊎ (Same (suc n) (vec (x ∷ xs)) (vec (y ∷ ys)) × (b ≡ true))
     rest f more =
         let q = both-true (eqb x y) (lexThen xs ys b) (rw f at e) in
         ⊎-elim (λ z. inl (less-tail n x y xs ys (eqb-true x y (q .0)) z)) (λ z. inr (same-tail n x y xs ys (eqb-true x y (q .0)) (z .0), z .1)) (more (q .1))

@@ -11,6 +11,7 @@ use lib.ListN.{getD, length}
 use lib.IntN.{ℤ, pos, _+ℤ_}
 use lib.Signed.{leZ, _≤ℤ_}
 use borrow.Author.Tests.{eqb-true, eqb-false, eq-eqb, ne-eqb, lt-ltb, ltb-true, not-true}
+use Rattle.laws.specs.Entry.{vec}
 use Rattle.laws.specs.Z.{true-false, leZ-true, true-leZ}
 use Rattle.laws.specs.Count.{both-true, both-show}
 use Rattle.dependence.specs.Graph.{edgeAt, total}
@@ -20,7 +21,7 @@ use Rattle.sheet.specs.Sheet.{InRange, typeAt, typeOf, opAt, graphOf}
 use Rattle.sheet.specs.Ranges as range
 use Rattle.plan.specs.Rules.{Plan, InstanceAllowed}
 use Rattle.plan.specs.Order.{Same, Less}
-use Rattle.plan.specs.Answers.{column, First}
+use Rattle.plan.specs.Answers.{First}
 use Rattle.plan.specs.Local.{plan-local}
 use Rattle.plan.specs.Resource.{greatest}
 use Rattle.plan.specs.Total.{same-sym, same-trans}
@@ -86,37 +87,37 @@ show-ne : (a b : ℕ) → not (eqb a b) ≡ true → a ≡ b → ⊥
 show-ne a b e q = true-false (sym (eq-eqb a b q) ∙ not-true (eqb a b) e)
 
 module _ (s : Sheet) (L : ℕ) where
-  pub meets-is : (ts : List ℕ) → meetsTest s L ts ≡ true → Meets (graphOf s) L (λ i. pos (column ts i))
-  meets-is ts e = record { met = λ k l. leZ-true _ _ (up-at (s .«edge_count») (λ k. leZ (pos (column ts (edgeAt (graphOf s) k .from)) +ℤ total (graphOf s) L k) (pos (column ts (edgeAt (graphOf s) k .to)))) e k l) }
+  pub meets-is : (ts : List ℕ) → meetsTest s L ts ≡ true → Meets (graphOf s) L (λ i. pos (vec ts i))
+  meets-is ts e = record { met = λ k l. leZ-true _ _ (up-at (s .«edge_count») (λ k. leZ (pos (vec ts (edgeAt (graphOf s) k .from)) +ℤ total (graphOf s) L k) (pos (vec ts (edgeAt (graphOf s) k .to)))) e k l) }
 
   module _ (ts us : List ℕ) where
     clash : ℕ → ℕ → Bool
     clash = clashTest s L ts us
 
-    pub plan-is : planTest s L ts us ≡ true → Plan s L (column ts) (column us)
+    pub plan-is : planTest s L ts us ≡ true → Plan s L (vec ts) (vec us)
     unfolding planTest clash
     plan-is e =
         let a = both-true (startsTest s ts) (both (meetsTest s L ts) (both (instancesTest s us) (apartTest s L ts us))) e in
         let b = both-true (meetsTest s L ts) (both (instancesTest s us) (apartTest s L ts us)) (a .1) in
         let c = both-true (instancesTest s us) (apartTest s L ts us) (b .1) in
         record {
-          start = λ i l. record { inHorizon = ltb-true (column ts i) (s .horizon) (up-at (s .«op_count») (λ j. ltb (column ts j) (s .horizon)) (a .0) i l) };
+          start = λ i l. record { inHorizon = ltb-true (vec ts i) (s .horizon) (up-at (s .«op_count») (λ j. ltb (vec ts j) (s .horizon)) (a .0) i l) };
           dependence = meets-is ts (b .0);
-          instance = λ i l. let q = instance-is (typeOf s i .instances) (column us i) (up-at (s .«op_count») (λ j. instanceTest (typeOf s j .instances) (column us j)) (c .0) i l) in
+          instance = λ i l. let q = instance-is (typeOf s i .instances) (vec us i) (up-at (s .«op_count») (λ j. instanceTest (typeOf s j .instances) (vec us j)) (c .0) i l) in
               record { limited = q .0; unlimited = q .1 };
           apart = λ i j h k r q o.
               let z = not-true (clash i j) (up-at (s .«op_count») (λ j. not (clash i j)) (up-at (s .«op_count») (λ i. upTo (s .«op_count») (λ j. not (clash i j))) (c .1) i h) j k) in
               true-false (sym (both-show (not (eqb i j)) _ (show-not (eqb i j) (λ z. r .different (eqb-true i j z)))
               (both-show (eqb (opAt s i .resource) (opAt s j .resource)) _ (eq-eqb _ _ (r .oneType))
-              (both-show (ltb 0 (typeOf s i .instances)) _ (lt-ltb 0 (typeOf s i .instances) (r .limited)) (both-show (eqb (column us i) (column us j)) _ (eq-eqb _ _ q) (eq-eqb _ _ o))))) ∙ z);
+              (both-show (ltb 0 (typeOf s i .instances)) _ (lt-ltb 0 (typeOf s i .instances) (r .limited)) (both-show (eqb (vec us i) (vec us j)) _ (eq-eqb _ _ q) (eq-eqb _ _ o))))) ∙ z);
         }
 
-    pub plan-show : Plan s L (column ts) (column us) → planTest s L ts us ≡ true
+    pub plan-show : Plan s L (vec ts) (vec us) → planTest s L ts us ≡ true
     unfolding planTest clash
     plan-show p =
-        both-show (startsTest s ts) _ (up-show (s .«op_count») (λ j. ltb (column ts j) (s .horizon)) (λ i l. lt-ltb (column ts i) (s .horizon) (p .start i l .inHorizon)))
-        (both-show (meetsTest s L ts) _ (up-show (s .«edge_count») (λ k. leZ (pos (column ts (edgeAt (graphOf s) k .from)) +ℤ total (graphOf s) L k) (pos (column ts (edgeAt (graphOf s) k .to)))) (λ k l. true-leZ (p .dependence .met k l)))
-        (both-show (instancesTest s us) _ (up-show (s .«op_count») (λ j. instanceTest (typeOf s j .instances) (column us j)) (λ i l. instance-show (typeOf s i .instances) (column us i) (p .instance i l .limited) (p .instance i l .unlimited)))
+        both-show (startsTest s ts) _ (up-show (s .«op_count») (λ j. ltb (vec ts j) (s .horizon)) (λ i l. lt-ltb (vec ts i) (s .horizon) (p .start i l .inHorizon)))
+        (both-show (meetsTest s L ts) _ (up-show (s .«edge_count») (λ k. leZ (pos (vec ts (edgeAt (graphOf s) k .from)) +ℤ total (graphOf s) L k) (pos (vec ts (edgeAt (graphOf s) k .to)))) (λ k l. true-leZ (p .dependence .met k l)))
+        (both-show (instancesTest s us) _ (up-show (s .«op_count») (λ j. instanceTest (typeOf s j .instances) (vec us j)) (λ i l. instance-show (typeOf s i .instances) (vec us i) (p .instance i l .limited) (p .instance i l .unlimited)))
         (up-show (s .«op_count») (λ i. upTo (s .«op_count») (λ j. not (clash i j))) (λ i h. up-show (s .«op_count») (λ j. not (clash i j)) (λ j k. show-not (clash i j) (apart i j h k))))))
       where
         apart : (i j : ℕ) → i < s .«op_count» → j < s .«op_count» → clashTest s L ts us i j ≡ true → ⊥
@@ -124,9 +125,9 @@ module _ (s : Sheet) (L : ℕ) where
             let a = both-true (not (eqb i j)) _ e in
             let b = both-true (eqb (opAt s i .resource) (opAt s j .resource)) _ (a .1) in
             let c = both-true (ltb 0 (typeOf s i .instances)) _ (b .1) in
-            let d = both-true (eqb (column us i) (column us j)) (eqb (column ts i % L) (column ts j % L)) (c .1) in
+            let d = both-true (eqb (vec us i) (vec us j)) (eqb (vec ts i % L) (vec ts j % L)) (c .1) in
             p .apart i j h k (record { different = show-ne i j (a .0); oneType = eqb-true _ _ (b .0); limited = ltb-true 0 (typeOf s i .instances) (c .0) })
-            (eqb-true (column us i) (column us j) (d .0)) (eqb-true (column ts i % L) (column ts j % L) (d .1))
+            (eqb-true (vec us i) (vec us j) (d .0)) (eqb-true (vec ts i % L) (vec ts j % L) (d .1))
 
 greatest-one : (n : ℕ) (f : ℕ → ℕ) → 1 ≤ greatest n f
 unfolding greatest
@@ -166,12 +167,12 @@ module _ (s : Sheet) (L : ℕ) (ok : InRange s) (t u : ℕ → ℕ) (q : Plan s 
       (λ i l. subst (λ (x : ℕ). x < s .horizon) (list-at (s .«op_count») t i l) (q .start i l .inHorizon)) in
       let b = every-at (s .«op_count») (instancesBelow s) (λ ys. cond (planTest s L ts ys) (p ts ys) true) a us (list-length (s .«op_count») u)
       (λ i l. subst (λ (x : ℕ). x < instancesBelow s) (list-at (s .«op_count») u i l) (instance-below i l)) in
-      rw (plan-show s L ts us (plan-local s L ok t u (column ts) (column us) (list-at (s .«op_count») t) (list-at (s .«op_count») u) q)) at b
+      rw (plan-show s L ts us (plan-local s L ok t u (vec ts) (vec us) (list-at (s .«op_count») t) (list-at (s .«op_count») u) q)) at b
 
 pub no-plan-is : (s : Sheet) (L : ℕ) → InRange s → noPlanTest s L ≡ true → (t u : ℕ → ℕ) → Plan s L t u → ⊥
 no-plan-is s L ok e t u q = true-false (sym (plan-has s L ok t u q (λ ts us. false) e))
 
-pub first-is : (s : Sheet) (L : ℕ) (ts us : List ℕ) → InRange s → length ts ≡ s .«op_count» → length us ≡ s .«op_count» → firstTest s L ts us ≡ true → First s L (column ts) (column us)
+pub first-is : (s : Sheet) (L : ℕ) (ts us : List ℕ) → InRange s → length ts ≡ s .«op_count» → length us ≡ s .«op_count» → firstTest s L ts us ≡ true → First s L (vec ts) (vec us)
 first-is s L ts us ok lt lu e =
     let a = both-true (planTest s L ts us) _ e in
     record {

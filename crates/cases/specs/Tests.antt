@@ -6,6 +6,7 @@ use lib.Dec.{eqb, ltb, leb}
 use lib.ListN.{getD, length}
 use lib.IntN.{ℤ, pos, _+ℤ_}
 use lib.Signed.{leZ, ltZ}
+use Rattle.laws.specs.Entry.{vec}
 use Rattle.dependence.specs.declared.Graph.{Graph}
 use Rattle.dependence.specs.declared.Edge.{Edge}
 use Rattle.dependence.specs.Graph.{edgeAt, total}
@@ -13,7 +14,6 @@ use Rattle.dependence.specs.Rules.{sum}
 use Rattle.sheet.specs.declared.Sheet.{Sheet}
 use Rattle.sheet.specs.Sheet.{typeAt, typeOf, opAt, graphOf}
 use Rattle.sheet.specs.Ranges as range
-use Rattle.plan.specs.Answers.{column}
 use Rattle.plan.specs.Resource.{greatest, shareOf}
 use Rattle.laws.specs.Count.{bit}
 
@@ -73,7 +73,7 @@ sheetTest s =
 
 -- dependence: t of i plus the total is at most t of j, for every edge
 abbrev pub meetsTest : Sheet → ℕ → List ℕ → Bool
-meetsTest s L ts = upTo (s .«edge_count») (λ k. leZ (pos (column ts (edgeAt (graphOf s) k .from)) +ℤ total (graphOf s) L k) (pos (column ts (edgeAt (graphOf s) k .to))))
+meetsTest s L ts = upTo (s .«edge_count») (λ k. leZ (pos (vec ts (edgeAt (graphOf s) k .from)) +ℤ total (graphOf s) L k) (pos (vec ts (edgeAt (graphOf s) k .to))))
 
 -- instance: u is below a; where a is 0 (unlimited) u is 0
 abbrev pub instanceTest : ℕ → ℕ → Bool
@@ -85,15 +85,15 @@ abbrev pub clashTest : Sheet → ℕ → List ℕ → List ℕ → ℕ → ℕ �
 clashTest s L ts us i j =
     both (not (eqb i j))
     (both (eqb (opAt s i .resource) (opAt s j .resource))
-    (both (ltb 0 (typeOf s i .instances)) (both (eqb (column us i) (column us j)) (eqb (column ts i % L) (column ts j % L)))))
+    (both (ltb 0 (typeOf s i .instances)) (both (eqb (vec us i) (vec us j)) (eqb (vec ts i % L) (vec ts j % L)))))
 
 -- start: t is below H, for every operation
 abbrev pub startsTest : Sheet → List ℕ → Bool
-startsTest s ts = upTo (s .«op_count») (λ i. ltb (column ts i) (s .horizon))
+startsTest s ts = upTo (s .«op_count») (λ i. ltb (vec ts i) (s .horizon))
 
 -- instance, for every operation with the A of its type
 abbrev pub instancesTest : Sheet → List ℕ → Bool
-instancesTest s us = upTo (s .«op_count») (λ i. instanceTest (typeOf s i .instances) (column us i))
+instancesTest s us = upTo (s .«op_count») (λ i. instanceTest (typeOf s i .instances) (vec us i))
 
 -- rivals with the same instance have different slots
 abbrev pub apartTest : Sheet → ℕ → List ℕ → List ℕ → Bool

@@ -11,12 +11,12 @@ use lib.ListN.{getD, length}
 use lib.IntN.{ℤ, pos}
 use lib.Signed.{ltZ, _<ℤ_}
 use borrow.Author.Tests.{eqb-true, eq-eqb, lt-ltb, ltb-true}
+use Rattle.laws.specs.Entry.{vec}
 use Rattle.laws.specs.Z.{true-false, ltZ-true, true-ltZ}
 use Rattle.laws.specs.Count.{both-true, both-show}
 use Rattle.dependence.specs.declared.Graph.{Graph}
 use Rattle.dependence.specs.Graph.{edgeAt, total}
 use Rattle.dependence.specs.Rules.{Chain, here, step, sum, BadWalk, Before, FirstBadWalk}
-use Rattle.plan.specs.Answers.{column}
 use Rattle.cases.specs.Tests.{both, upTo, every, lexThen, chainTest, badTest, firstWalkTest}
 use Rattle.cases.specs.Lists.{up-at, every-at, lex-before}
 
@@ -33,7 +33,7 @@ unfolding chainTest
 chain-show {i = i} here = eq-eqb i i refl
 chain-show {g} (step {k = k} l c) = both-show (ltb k (g .«edge_count»)) _ (lt-ltb k (g .«edge_count») l) (both-show (eqb (edgeAt g k .from) (edgeAt g k .from)) _ (eq-eqb (edgeAt g k .from) (edgeAt g k .from) refl) (chain-show c))
 
-chain-below : {g : Graph} {i j : ℕ} {ks : List ℕ} → Chain g i ks j → (m : ℕ) → m < length ks → column ks m < g .«edge_count»
+chain-below : {g : Graph} {i j : ℕ} {ks : List ℕ} → Chain g i ks j → (m : ℕ) → m < length ks → vec ks m < g .«edge_count»
 chain-below here m h = absurd (omega arith)
 chain-below (step l c) zero h = l
 chain-below (step l c) (suc m) h = chain-below c m (omega arith)

@@ -9,11 +9,11 @@ use lib.ListN.{length, getD, take, length-take}
 use lib.Seq.{ext-getD, getD-take}
 use lib.IntN.{ℤ, pos, _-ℤ_}
 use Rattle.laws.specs.Z.{zed}
-use Rattle.laws.specs.Entry.{at, cell, vec}
+use Rattle.laws.specs.Entry.{zeros, at, cell, vec}
 use Rattle.dependence.specs.declared.Graph.{Graph}
 use Rattle.dependence.specs.Graph.{InRange, Interval, total}
 use Rattle.dependence.specs.Feasible.{infeasible-exactly}
-use Rattle.dependence.specs.Answer.{zeros, zeroRow, zeroTable, FloorOk, Refusal, TotalAnswer, total-three, total-four, total-found, StartsAnswer, starts-three, starts-four, starts-five, starts-found, WalkAnswer, walk-three, walk-four, walk-five, walk-none, TableAnswer, table-refused, table-bad, table-found, Cell, cell-none, cell-some, Separations, Peak, LagRow, Lags, BoundAnswer, bound-three, bound-eight, bound-found}
+use Rattle.dependence.specs.Answer.{zeroRow, zeroTable, FloorOk, Refusal, TotalAnswer, total-three, total-four, total-found, StartsAnswer, starts-three, starts-four, starts-five, starts-found, WalkAnswer, walk-three, walk-four, walk-five, walk-none, TableAnswer, table-refused, table-bad, table-found, Cell, cell-none, cell-some, Separations, Peak, LagRow, Lags, BoundAnswer, bound-three, bound-eight, bound-found}
 use Rattle.dependence.specs.Rules.{BadWalk, Before, less, same, FirstBadWalk, Earliest, Separation}
 
 -- ---- the rules: one first bad closed walk, one earliest start, one separation

@@ -6,6 +6,7 @@ use mathlib.Core.Logic.{_⊎_, _≢_}
 use mathlib.Core.List.{List, []}
 use Prim.Native.Nat.{ℕ, _%_, _≤_, _<_, _+_}
 use lib.ListN.{getD}
+use Rattle.laws.specs.Entry.{vec}
 
 -- whether start t is allowed by a row
 abbrev pub has : List Bool → ℕ → Bool
@@ -14,10 +15,6 @@ has row t = getD row t false
 -- the row of operation i; past the last row no start is allowed
 abbrev pub rowOf : List (List Bool) → ℕ → List Bool
 rowOf ok i = getD ok i []
-
--- entry v of a vector, 0 past its end
-abbrev pub val : List ℕ → ℕ → ℕ
-val l v = getD l v 0
 
 -- the starts t are allowed
 pub record In (n : ℕ) (ok : List (List Bool)) (t : ℕ → ℕ) : Type 0 where
@@ -39,8 +36,8 @@ pub record Keeps (Plan : (ℕ → ℕ) → Type 0) (n : ℕ) (b a : List (List B
 
 -- what a search answers
 pub record Solved (Plan : (ℕ → ℕ) → Type 0) (n : ℕ) (ok : List (List Bool)) (found : Bool) (x : List ℕ) : Type 0 where
-  pub inside : found ≡ true → In n ok (val x)
-  pub plan : found ≡ true → Plan (val x)
+  pub inside : found ≡ true → In n ok (vec x)
+  pub plan : found ≡ true → Plan (vec x)
   pub none : found ≡ false → (t : ℕ → ℕ) → Plan t → In n ok t → ⊥
 
 -- s comes before t, or is t: the first of n operations where they differ decides
@@ -49,9 +46,9 @@ pub record Before (n : ℕ) (s t : ℕ → ℕ) : Type 0 where
 
 -- the first plan in the domain, or that there is none
 pub record FirstIn (Plan : (ℕ → ℕ) → Type 0) (n : ℕ) (ok : List (List Bool)) (found : Bool) (x : List ℕ) : Type 0 where
-  pub inside : found ≡ true → In n ok (val x)
-  pub plan : found ≡ true → Plan (val x)
-  pub first : found ≡ true → (t : ℕ → ℕ) → Plan t → In n ok t → Before n (val x) t
+  pub inside : found ≡ true → In n ok (vec x)
+  pub plan : found ≡ true → Plan (vec x)
+  pub first : found ≡ true → (t : ℕ → ℕ) → Plan t → In n ok t → Before n (vec x) t
   pub none : found ≡ false → (t : ℕ → ℕ) → Plan t → In n ok t → ⊥
 
 -- ---- rows

@@ -8,27 +8,28 @@ use native.Mathlib.Omega.{arith}
 use native.Mathlib.Decide.{ℕ-discrete, decLt}
 use lib.ListN.{set, length}
 use lib.Seq.{getD-set-same}
+use Rattle.laws.specs.Entry.{vec}
 use Rattle.laws.specs.Z.{true-false}
 use Rattle.laws.specs.Store.{store}
-use Rattle.domain.specs.Domain.{has, rowOf, val, In, Part, Within, Solved, Below, Only, FirstIn, Keeps, Least}
+use Rattle.domain.specs.Domain.{has, rowOf, In, Part, Within, Solved, Below, Only, FirstIn, Keeps, Least}
 use Rattle.domain.specs.Split.{within-self, within-trans, within-set, in-set, in-wider}
 
 -- the starts x are a plan's, and the domain d allows them
 pub record Good (Plan : (ℕ → ℕ) → Type 0) (n : ℕ) (d : List (List Bool)) (x : List ℕ) : Type 0 where
-  pub inside : In n d (val x)
-  pub plan : Plan (val x)
+  pub inside : In n d (vec x)
+  pub plan : Plan (vec x)
 
 -- a plan in d whose start of i is least
 pub record Lowered (Plan : (ℕ → ℕ) → Type 0) (n : ℕ) (d : List (List Bool)) (i : ℕ) (x : List ℕ) : Type 0 where
   pub good : Good Plan n d x
-  pub least : (t : ℕ → ℕ) → Plan t → In n d t → val x i ≤ t i
+  pub least : (t : ℕ → ℕ) → Plan t → In n d t → vec x i ≤ t i
 
 -- the first i starts of x are settled, and d has only those
 pub record Lead (Plan : (ℕ → ℕ) → Type 0) (n : ℕ) (ok d : List (List Bool)) (i : ℕ) (x : List ℕ) : Type 0 where
   pub good : Good Plan n d x
   pub within : Within n d ok
-  pub pinned : (v : ℕ) → v < i → (s : ℕ) → s < 128 → has (rowOf d v) s ≡ true → s ≡ val x v
-  pub rest : (t : ℕ → ℕ) → Plan t → In n ok t → (In n d t × ((v : ℕ) → v < i → val x v ≡ t v)) ⊎ ((k : ℕ) × (k < i) × (val x k < t k) × ((v : ℕ) → v < k → val x v ≡ t v))
+  pub pinned : (v : ℕ) → v < i → (s : ℕ) → s < 128 → has (rowOf d v) s ≡ true → s ≡ vec x v
+  pub rest : (t : ℕ → ℕ) → Plan t → In n ok t → (In n d t × ((v : ℕ) → v < i → vec x v ≡ t v)) ⊎ ((k : ℕ) × (k < i) × (vec x k < t k) × ((v : ℕ) → v < k → vec x v ≡ t v))
 
 -- s has the smaller start at the first of n operations where they differ
 abbrev pub Sooner : ℕ → (ℕ → ℕ) → (ℕ → ℕ) → Type 0
@@ -51,12 +52,12 @@ pub record Held (Plan : (ℕ → ℕ) → Type 0) (n : ℕ) (d : List (List Bool
 module _ (Plan : (ℕ → ℕ) → Type 0) (n : ℕ) where
   -- ---- one operation
 
-  module _ (d : List (List Bool)) (i : ℕ) (x : List ℕ) {r : List Bool} (l : i < length d) (m : i < n) (b : Below (rowOf d i) (val x i) r) where
+  module _ (d : List (List Bool)) (i : ℕ) (x : List ℕ) {r : List Bool} (l : i < length d) (m : i < n) (b : Below (rowOf d i) (vec x i) r) where
     pub lower-found : {f : Bool} {y : List ℕ} → Solved Plan n (set d i r) f y → f ≡ true → Good Plan n d y
     lower-found s e = record { inside = in-wider (within-set l (b .was)) (s .inside e); plan = s .plan e }
 
-    pub lower-less : {f : Bool} {y : List ℕ} → Solved Plan n (set d i r) f y → f ≡ true → val y i < val x i
-    lower-less {f} {y} s e = pick (ltOr (val y i) (val x i))
+    pub lower-less : {f : Bool} {y : List ℕ} → Solved Plan n (set d i r) f y → f ≡ true → vec y i < vec x i
+    lower-less {f} {y} s e = pick (ltOr (vec y i) (vec x i))
       where
         ltOr : (a c : ℕ) → (a < c) ⊎ (c ≤ a)
         ltOr a c = go (decLt a c)
@@ -65,17 +66,17 @@ module _ (Plan : (ℕ → ℕ) → Type 0) (n : ℕ) where
             go (yes q) = inl q
             go (no q) = inr (omega arith)
 
-        now : has r (val y i) ≡ true
-        now = subst (λ (q : List Bool). has q (val y i) ≡ true) (getD-set-same d i r [] l) (s .inside e .allowed i m)
+        now : has r (vec y i) ≡ true
+        now = subst (λ (q : List Bool). has q (vec y i) ≡ true) (getD-set-same d i r [] l) (s .inside e .allowed i m)
 
-        pick : (val y i < val x i) ⊎ (val x i ≤ val y i) → val y i < val x i
+        pick : (vec y i < vec x i) ⊎ (vec x i ≤ vec y i) → vec y i < vec x i
         pick (inl q) = q
-        pick (inr q) = absurd (b .high (val y i) (s .inside e .small i m) q now)
+        pick (inr q) = absurd (b .high (vec y i) (s .inside e .small i m) q now)
 
     pub lower-done : {f : Bool} {y : List ℕ} → Good Plan n d x → Solved Plan n (set d i r) f y → f ≡ false → Lowered Plan n d i x
-    lower-done g s e = record { good = g; least = λ t p h. pick t p h (decLt (t i) (val x i)) }
+    lower-done g s e = record { good = g; least = λ t p h. pick t p h (decLt (t i) (vec x i)) }
       where
-        pick : (t : ℕ → ℕ) → Plan t → In n d t → Dec (t i < val x i) → val x i ≤ t i
+        pick : (t : ℕ → ℕ) → Plan t → In n d t → Dec (t i < vec x i) → vec x i ≤ t i
         pick t p h (yes q) = absurd (s .none e t p (in-set r l h (b .low (t i) (h .small i m) q (h .allowed i m))))
         pick t p h (no q) = omega arith
 
@@ -84,9 +85,9 @@ module _ (Plan : (ℕ → ℕ) → Type 0) (n : ℕ) where
   pub lead-start : {ok : List (List Bool)} {x : List ℕ} → Good Plan n ok x → Lead Plan n ok ok 0 x
   lead-start {ok} {x} g = record { good = g; within = within-self ok; pinned = λ v l. absurd (omega arith); rest = λ t p h. inl (h, λ v l. absurd (omega arith)) }
 
-  module _ {ok d : List (List Bool)} {i : ℕ} {x y : List ℕ} {r : List Bool} (l : i < length d) (m : i < n) (z : Lead Plan n ok d i x) (w : Lowered Plan n d i y) (o : Only (val y i) r) where
-    same : (v : ℕ) → v < i → val y v ≡ val x v
-    same v q = z .pinned v q (val y v) (w .good .inside .small v (omega arith)) (w .good .inside .allowed v (omega arith))
+  module _ {ok d : List (List Bool)} {i : ℕ} {x y : List ℕ} {r : List Bool} (l : i < length d) (m : i < n) (z : Lead Plan n ok d i x) (w : Lowered Plan n d i y) (o : Only (vec y i) r) where
+    same : (v : ℕ) → v < i → vec y v ≡ vec x v
+    same v q = z .pinned v q (vec y v) (w .good .inside .small v (omega arith)) (w .good .inside .allowed v (omega arith))
 
     part : Part r (rowOf d i)
     part = record { part = λ t h e. subst (λ (s : ℕ). has (rowOf d i) s ≡ true) (sym (o .other t h e)) (w .good .inside .allowed i m) }
@@ -95,17 +96,17 @@ module _ (Plan : (ℕ → ℕ) → Type 0) (n : ℕ) where
     lead-next = record {
       good = record { inside = in-set r l (w .good .inside) (o .here); plan = w .good .plan };
       within = within-trans (within-set l part) (z .within);
-      pinned = λ v q. store (λ k row. (s : ℕ) → s < 128 → has row s ≡ true → s ≡ val y k) d i r [] l (o .other) v
+      pinned = λ v q. store (λ k row. (s : ℕ) → s < 128 → has row s ≡ true → s ≡ vec y k) d i r [] l (o .other) v
           (λ ne s h e. z .pinned v (omega arith) s h e ∙ sym (same v (omega arith)));
-      rest = λ t p h. ⊎-elim (λ a. go t p a (ℕ-discrete (val y i) (t i)))
+      rest = λ t p h. ⊎-elim (λ a. go t p a (ℕ-discrete (vec y i) (t i)))
           (λ k. inr (k .0, omega arith, omega (arith, same (k .0) (k .1), k .2), λ v q. same v (omega (arith, k .1)) ∙ k .3 v q)) (z .rest t p h);
     }
       where
-        go : (t : ℕ → ℕ) → Plan t → (In n d t × ((v : ℕ) → v < i → val x v ≡ t v)) → Dec (val y i ≡ t i) → (In n (set d i r) t × ((v : ℕ) → v < i + 1 → val y v ≡ t v)) ⊎ ((k : ℕ) × (k < i + 1) × (val y k < t k) × ((v : ℕ) → v < k → val y v ≡ t v))
+        go : (t : ℕ → ℕ) → Plan t → (In n d t × ((v : ℕ) → v < i → vec x v ≡ t v)) → Dec (vec y i ≡ t i) → (In n (set d i r) t × ((v : ℕ) → v < i + 1 → vec y v ≡ t v)) ⊎ ((k : ℕ) × (k < i + 1) × (vec y k < t k) × ((v : ℕ) → v < k → vec y v ≡ t v))
         go t p a (yes e) = inl (in-set r l (a .0) (subst (λ (s : ℕ). has r s ≡ true) e (o .here)), λ v q. at v q (ℕ-discrete v i))
           where
-            at : (v : ℕ) → v < i + 1 → Dec (v ≡ i) → val y v ≡ t v
-            at v q (yes c) = subst (λ (k : ℕ). val y k ≡ t k) (sym c) e
+            at : (v : ℕ) → v < i + 1 → Dec (v ≡ i) → vec y v ≡ t v
+            at v q (yes c) = subst (λ (k : ℕ). vec y k ≡ t k) (sym c) e
             at v q (no c) = same v (omega arith) ∙ a .1 v (omega arith)
         go t p a (no ne) = inr (i, omega arith, omega (arith, w .least t p (a .0)), λ v q. same v q ∙ a .1 v q)
 
@@ -165,7 +166,7 @@ module _ (Plan : (ℕ → ℕ) → Type 0) (n : ℕ) where
   ahead-done {x = x} z e g = record {
     inside = λ _. in-wider (z .within) (g .inside);
     plan = λ _. g .plan;
-    first = λ _ t p h. record { case = ⊎-elim (λ a. inl (λ v q. z .single v (omega arith) (val x v) (t v) (g .inside .small v q) (a .small v q) (g .inside .allowed v q) (a .allowed v q))) (λ f. inr (f (val x) (g .inside))) (z .rest t p h) };
+    first = λ _ t p h. record { case = ⊎-elim (λ a. inl (λ v q. z .single v (omega arith) (vec x v) (t v) (g .inside .small v q) (a .small v q) (g .inside .allowed v q) (a .allowed v q))) (λ f. inr (f (vec x) (g .inside))) (z .rest t p h) };
     none = λ q. true-false q;
   }
 
@@ -173,17 +174,17 @@ module _ (Plan : (ℕ → ℕ) → Type 0) (n : ℕ) where
 
   pub lead-keeps : {ok d e : List (List Bool)} {i : ℕ} {x : List ℕ} → i ≤ n → Lead Plan n ok d i x → Keeps Plan n d e → Lead Plan n ok e i x
   lead-keeps {x = x} m h k = record {
-    good = record { inside = k .kept (val x) (h .good .plan) (h .good .inside); plan = h .good .plan };
+    good = record { inside = k .kept (vec x) (h .good .plan) (h .good .inside); plan = h .good .plan };
     within = within-trans (k .within) (h .within);
     pinned = λ v l s a y. h .pinned v l s a (k .within .row v (omega arith) .part s a y);
     rest = λ t p q. ⊎-elim (λ a. inl (k .kept t p (a .0), a .1)) (λ b. inr b) (h .rest t p q);
   }
 
   -- a plan whose start of i is the least that d allows
-  pub lower-least : {d : List (List Bool)} {i u : ℕ} {x : List ℕ} → i < n → Good Plan n d x → Least (rowOf d i) u → val x i ≡ u → Lowered Plan n d i x
+  pub lower-least : {d : List (List Bool)} {i u : ℕ} {x : List ℕ} → i < n → Good Plan n d x → Least (rowOf d i) u → vec x i ≡ u → Lowered Plan n d i x
   lower-least {d} {i} {u} {x} m g z e = record { good = g; least = λ t p h. pick t h (decLt (t i) u) }
     where
-      pick : (t : ℕ → ℕ) → In n d t → Dec (t i < u) → val x i ≤ t i
+      pick : (t : ℕ → ℕ) → In n d t → Dec (t i < u) → vec x i ≤ t i
       pick t h (yes q) = absurd (z .before (t i) q (h .allowed i m))
       pick t h (no q) = omega (arith, e)
 

@@ -8,10 +8,11 @@ use native.Mathlib.Omega.{arith}
 use native.Mathlib.Decide.{ℕ-discrete}
 use lib.ListN.{set, length}
 use lib.Seq.{getD-set-same}
+use Rattle.laws.specs.Entry.{vec}
 use Rattle.laws.specs.Z.{true-false}
 use Rattle.laws.specs.Store.{store}
 use Rattle.laws.specs.Count.{total, bit, total-le, total-lt, bit-le, bit-lt}
-use Rattle.domain.specs.Domain.{has, rowOf, val, In, Part, Within, Keeps, Solved, OnlyClass, WithoutClass, Least}
+use Rattle.domain.specs.Domain.{has, rowOf, In, Part, Within, Keeps, Solved, OnlyClass, WithoutClass, Least}
 
 -- the starts that a row allows
 pub count : List Bool → ℕ
@@ -80,7 +81,7 @@ module _ (Plan : (ℕ → ℕ) → Type 0) (n : ℕ) where
   pub solved-none : {a : List (List Bool)} {x : List ℕ} → ((t : ℕ → ℕ) → Plan t → In n a t → ⊥) → Solved Plan n a false x
   solved-none h = record { inside = λ y. true-false (sym y); plan = λ y. true-false (sym y); none = λ _. h }
 
-  pub solved-found : {a : List (List Bool)} {x : List ℕ} → In n a (val x) → Plan (val x) → Solved Plan n a true x
+  pub solved-found : {a : List (List Bool)} {x : List ℕ} → In n a (vec x) → Plan (vec x) → Solved Plan n a true x
   solved-found h p = record { inside = λ _. h; plan = λ _. p; none = λ y. true-false y }
 
 -- ---- a split
@@ -152,16 +153,16 @@ rest-less {u = u} w z h e = count-lt (w .was) u h (z .here h) (w .gone u h e)
 
 -- the least starts
 pub record LeastStarts (n : ℕ) (d : List (List Bool)) (x : List ℕ) : Type 0 where
-  pub least : (i : ℕ) → i < n → Least (rowOf d i) (val x i)
+  pub least : (i : ℕ) → i < n → Least (rowOf d i) (vec x i)
 
 module _ (Plan : (ℕ → ℕ) → Type 0) (n : ℕ) {d : List (List Bool)} {x : List ℕ} (z : LeastStarts n d x) where
-  pub low-in : ((i : ℕ) → i < n → val x i < 128) → In n d (val x)
+  pub low-in : ((i : ℕ) → i < n → vec x i < 128) → In n d (vec x)
   low-in h = record { small = h; allowed = λ i l. z .least i l .here (h i l) }
 
   -- an operation with no start
-  pub bare-none : {y : List ℕ} → (i : ℕ) → i < n → val x i ≡ 128 → Solved Plan n d false y
+  pub bare-none : {y : List ℕ} → (i : ℕ) → i < n → vec x i ≡ 128 → Solved Plan n d false y
   bare-none i l e = solved-none Plan n (λ t p h. z .least i l .before (t i) (omega (arith, h .small i l)) (h .allowed i l))
 
   -- each operation has one start, and those are no plan
-  pub pinned-none : {y : List ℕ} → ((s t : ℕ → ℕ) → ((i : ℕ) → i < n → s i ≡ t i) → Plan s → Plan t) → ((i : ℕ) → i < n → (t : ℕ) → t < 128 → has (rowOf d i) t ≡ true → t ≡ val x i) → (Plan (val x) → ⊥) → Solved Plan n d false y
-  pinned-none local one bad = solved-none Plan n (λ t p h. bad (local t (val x) (λ i l. one i l (t i) (h .small i l) (h .allowed i l)) p))
+  pub pinned-none : {y : List ℕ} → ((s t : ℕ → ℕ) → ((i : ℕ) → i < n → s i ≡ t i) → Plan s → Plan t) → ((i : ℕ) → i < n → (t : ℕ) → t < 128 → has (rowOf d i) t ≡ true → t ≡ vec x i) → (Plan (vec x) → ⊥) → Solved Plan n d false y
+  pinned-none local one bad = solved-none Plan n (λ t p h. bad (local t (vec x) (λ i l. one i l (t i) (h .small i l) (h .allowed i l)) p))

@@ -9,9 +9,9 @@ use lib.Dec.{ltb}
 use lib.ListN.{set, length}
 use lib.Seq.{getD-set-other}
 use borrow.Author.Tests.{eq-eqb, lt-ltb, ltb-true}
+use Rattle.laws.specs.Entry.{vec}
 use Rattle.laws.specs.Store.{store-more}
 use Rattle.laws.specs.Count.{tally, tally-lt, both-true, both-show}
-use Rattle.domain.specs.Domain.{val}
 use Rattle.task.specs.declared.Task.{Task}
 use Rattle.task.specs.Plan.{typeOf, instancesOf, PlanOf, held}
 use Rattle.instances.specs.Lowest.{Lowest}
@@ -24,9 +24,9 @@ free-local resource x u w l k a r same f = record {
   unused = λ h i m q e. f .unused h i m q (same i m ∙ e);
 }
 
-pub seat-more : (resource x : ℕ → ℕ) (a : ℕ → ℕ) (l : ℕ) (u : List ℕ) (k r : ℕ) → k < length u → ((j : ℕ) → j < k → Free resource x (val u) l j (a j) (val u j)) → Free resource x (val u) l k (a k) r → (j : ℕ) → j < k + 1 → Free resource x (val (set u k r)) l j (a j) (val (set u k r) j)
-seat-more resource x a l u k r h c f j m = free-local resource x (val u) (val (set u k r)) l j (a j) (val (set u k r) j) (λ i q. sym (getD-set-other u k i r 0 (λ e. far i q e)))
-    (store-more (λ i z. Free resource x (val u) l i (a i) z) u k r 0 h f c j m)
+pub seat-more : (resource x : ℕ → ℕ) (a : ℕ → ℕ) (l : ℕ) (u : List ℕ) (k r : ℕ) → k < length u → ((j : ℕ) → j < k → Free resource x (vec u) l j (a j) (vec u j)) → Free resource x (vec u) l k (a k) r → (j : ℕ) → j < k + 1 → Free resource x (vec (set u k r)) l j (a j) (vec (set u k r) j)
+seat-more resource x a l u k r h c f j m = free-local resource x (vec u) (vec (set u k r)) l j (a j) (vec (set u k r) j) (λ i q. sym (getD-set-other u k i r 0 (λ e. far i q e)))
+    (store-more (λ i z. Free resource x (vec u) l i (a i) z) u k r 0 h f c j m)
   where
     far : (i : ℕ) → i < j → i ≡ k → ⊥
     far i q e = omega arith
@@ -76,14 +76,14 @@ abbrev pub Rival : Task → (ℕ → ℕ) → ℕ → ℕ → Type 0
 Rival p x i k = Meet (typeOf p) x (p .interval) i k × (0 < instancesOf p (typeOf p k))
 
 module _ (p : Task) (x u : List ℕ) (s : Seats p x u) where
-  pub seats-lowest : Lowest (Rival p (val x)) (p .ops) (val u)
+  pub seats-lowest : Lowest (Rival p (vec x)) (p .ops) (vec u)
   seats-lowest = record { taken = λ k h v m. let t = s .seat k h .taken v m in (t .0, t .1, (t .2, omega (arith, s .seat k h .within)), t .3) }
 
-  pub seats-below : PlanOf p (val x) → (k : ℕ) → k < p .ops → 0 < instancesOf p (typeOf p k) → val u k < instancesOf p (typeOf p k)
-  seats-below plan k h l = seat-below p (val x) (val u) k h plan l (s .seat k h)
+  pub seats-below : PlanOf p (vec x) → (k : ℕ) → k < p .ops → 0 < instancesOf p (typeOf p k) → vec u k < instancesOf p (typeOf p k)
+  seats-below plan k h l = seat-below p (vec x) (vec u) k h plan l (s .seat k h)
 
-  pub seats-apart : PlanOf p (val x) → (i k : ℕ) → i < k → k < p .ops → Rival p (val x) i k → val u i ≡ val u k → ⊥
+  pub seats-apart : PlanOf p (vec x) → (i k : ℕ) → i < k → k < p .ops → Rival p (vec x) i k → vec u i ≡ vec u k → ⊥
   seats-apart plan i k l h m e = s .seat k h .unused (seats-below plan k h (m .1)) i l (m .0) e
 
-  pub seats-zero : (k : ℕ) → k < p .ops → instancesOf p (typeOf p k) ≡ 0 → val u k ≡ 0
+  pub seats-zero : (k : ℕ) → k < p .ops → instancesOf p (typeOf p k) ≡ 0 → vec u k ≡ 0
   seats-zero k h e = omega (arith, s .seat k h .within)

@@ -3,7 +3,7 @@ use mathlib.Core.Path.{_≡_}
 use mathlib.Core.Bool.{Bool, true, false}
 use mathlib.Core.List.{List}
 use Prim.Native.Nat.{ℕ, _%_, _≤_, _<_}
-use Rattle.domain.specs.Domain.{val}
+use Rattle.laws.specs.Entry.{vec}
 use Rattle.task.specs.declared.Task.{Task}
 use Rattle.task.specs.Plan.{typeOf, instancesOf}
 
@@ -30,4 +30,4 @@ pub record Free (resource x u : ℕ → ℕ) (l k a r : ℕ) : Type 0 where
 
 -- instances for the starts x
 pub record Seats (p : Task) (x u : List ℕ) : Type 0 where
-  pub seat : (k : ℕ) → k < p .ops → Free (typeOf p) (val x) (val u) (p .interval) k (instancesOf p (typeOf p k)) (val u k)
+  pub seat : (k : ℕ) → k < p .ops → Free (typeOf p) (vec x) (vec u) (p .interval) k (instancesOf p (typeOf p k)) (vec u k)

@@ -3,7 +3,7 @@
 // Caller: schedule::plan_at, which proves `Ready`, and with it `TaskOk`, from the sheet.
 ghost use mathlib.Core.Path.{_≡_};
 ghost use Prim.Native.Nat.{ℕ, _+_, _≤_, _<_};
-ghost use Rattle.domain.specs.Domain.{val};
+ghost use Rattle.laws.specs.Entry.{vec};
 ghost use Rattle.task.specs.Plan.{TaskOk};
 ghost use Rattle.instances.specs.Seats.{Same, HeldBy, Free, Seats};
 use task::Task;
@@ -30,7 +30,7 @@ fn held_by(
     v: usize,
 ) -> bool
     requires { ⌜ (0 < l) × (k < 24) ⌝ }
-    ensures { λ r. ⌜ HeldBy (val resource) (val x) (val u) l k v r ⌝ }
+    ensures { λ r. ⌜ HeldBy (vec resource) (vec x) (vec u) l k v r ⌝ }
 {
     let mut i: usize = 0;
     while i < k {
@@ -52,7 +52,7 @@ fn lowest_free(
     a: usize,
 ) -> usize
     requires { ⌜ (0 < l) × (k < 24) ⌝ }
-    ensures { λ r. ⌜ Free (val resource) (val x) (val u) l k a r ⌝ }
+    ensures { λ r. ⌜ Free (vec resource) (vec x) (vec u) l k a r ⌝ }
 {
     let mut v: usize = 0;
     while v < a {

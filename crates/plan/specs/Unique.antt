@@ -8,6 +8,7 @@ use native.Mathlib.Decide.{decLt}
 use lib.ListN.{getD, length}
 use lib.Seq.{ext-getD}
 use lib.IntN.{ℤ, pos}
+use Rattle.laws.specs.Entry.{zeros, vec}
 use Rattle.dependence.specs.Rules.{FirstBadWalk, Meets}
 use Rattle.dependence.specs.Unique.{first-one}
 use Rattle.sheet.specs.declared.Sheet.{Sheet}
@@ -17,7 +18,7 @@ use Rattle.plan.specs.declared.IntervalAnswer.{IntervalAnswer}
 use Rattle.plan.specs.Rules.{Plan}
 use Rattle.plan.specs.Order.{Same, Precedes}
 use Rattle.plan.specs.Total.{precedes-precedes, precedes-same, same-sym}
-use Rattle.plan.specs.Answers.{column, zeros, First, PlanAt, Padded, ZeroFrom, Least, out-of-range, no-interval, bad-walk, denied, given, sheet-out-of-range, none, least}
+use Rattle.plan.specs.Answers.{First, PlanAt, Padded, ZeroFrom, Least, out-of-range, no-interval, bad-walk, denied, given, sheet-out-of-range, none, least}
 
 -- ---- the first plan
 
@@ -30,7 +31,7 @@ first-unique {s} {L} {t} {u} {t'} {u'} a b =
 padded-unique : {xs ys zs : List ℕ} → Padded xs ys → Padded xs zs → ys ≡ zs
 padded-unique {xs} {ys} {zs} p q = ext-getD 0 ys zs (p .whole ∙ sym (q .whole)) (λ i h. p .front i ∙ sym (q .front i))
 
-zero-unique : {n : ℕ} {xs ys : List ℕ} → ZeroFrom n xs → ZeroFrom n ys → Same n (column xs) (column ys) → xs ≡ ys
+zero-unique : {n : ℕ} {xs ys : List ℕ} → ZeroFrom n xs → ZeroFrom n ys → Same n (vec xs) (vec ys) → xs ≡ ys
 zero-unique {n} {xs} {ys} p q e = ext-getD 0 xs ys (p .whole ∙ sym (q .whole)) (λ i h. at i (decLt i n))
   where
     at : (i : ℕ) → Dec (i < n) → getD xs i 0 ≡ getD ys i 0

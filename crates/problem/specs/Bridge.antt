@@ -8,6 +8,7 @@ use Prim.Native.Nat.{ℕ, _+_, _%_, _<_, _≤_}
 use native.Mathlib.Omega.{arith}
 use native.Mathlib.Decide.{decLt}
 use lib.IntN.{ℤ, pos}
+use Rattle.laws.specs.Entry.{vec}
 use Rattle.laws.specs.Z.{true-false}
 use Rattle.laws.specs.Count.{tally}
 use Rattle.dependence.specs.Graph.{Says}
@@ -16,11 +17,11 @@ use Rattle.sheet.specs.Sheet.{InRange, Interval, Limited, typeOf, typeAt, opAt,
 use Rattle.sheet.specs.Facts.{horizon-most, ops-most}
 use Rattle.plan.specs.Rules.{Plan, StartAllowed, InstanceAllowed, Rivals}
 use Rattle.plan.specs.Order.{Less, Same, Precedes}
-use Rattle.plan.specs.Answers.{column, First, ZeroFrom}
+use Rattle.plan.specs.Answers.{First, ZeroFrom}
 use Rattle.plan.specs.Total.{same-sym, same-trans}
 use Rattle.plan.specs.Local.{plan-local}
 use Rattle.plan.specs.Places.{tally-places}
-use Rattle.domain.specs.Domain.{val, has, rowOf, In, Before, FirstIn}
+use Rattle.domain.specs.Domain.{has, rowOf, In, Before, FirstIn}
 use Rattle.task.specs.declared.Task.{Task}
 use Rattle.task.specs.Plan as task
 use Rattle.task.specs.PlanLaws as laws
@@ -37,7 +38,7 @@ says-true false s p = absurd (s .no refl p)
 
 -- the numbers of a plan's operations alone
 pub record Cut (n : ℕ) (x y : List ℕ) : Type 0 where
-  pub front : Same n (column x) (column y)
+  pub front : Same n (vec x) (vec y)
   pub back : ZeroFrom n y
 
 module _ (s : Sheet) (L : ℕ) (table : List (List ℤ)) (p : Task) (ok : InRange s) (iv : Interval s L) (f : TaskFor s L table p) where
@@ -84,17 +85,17 @@ module _ (s : Sheet) (L : ℕ) (table : List (List ℤ)) (p : Task) (ok : InRang
 
   -- ---- instances from counts
 
-  module _ (x u : List ℕ) (seats : Seats p x u) (q : task.PlanOf p (val x)) (allowed : (i : ℕ) → i < s .«op_count» → StartAllowed s L i (val x i)) where
-    meet : (i j : ℕ) → i < s .«op_count» → j < s .«op_count» → Rivals s i j → val x i % L ≡ val x j % L → Rival p (val x) i j
+  module _ (x u : List ℕ) (seats : Seats p x u) (q : task.PlanOf p (vec x)) (allowed : (i : ℕ) → i < s .«op_count» → StartAllowed s L i (vec x i)) where
+    meet : (i j : ℕ) → i < s .«op_count» → j < s .«op_count» → Rivals s i j → vec x i % L ≡ vec x j % L → Rival p (vec x) i j
     meet i j h k r o = (
       record {
         type = f .types-for .type i h ∙ r .oneType ∙ sym (f .types-for .type j k);
-        slot = subst (λ (l : ℕ). val x i % l ≡ val x j % l) (sym (f .interval-is)) o;
+        slot = subst (λ (l : ℕ). vec x i % l ≡ vec x j % l) (sym (f .interval-is)) o;
       },
       subst (λ (a : ℕ). 0 < a) (sym (limit-of j k)) (subst (λ (v : ℕ). 0 < typeAt s v .instances) (r .oneType) (r .limited)),
     )
 
-    split : (i j : ℕ) → i < s .«op_count» → j < s .«op_count» → Rivals s i j → val u i ≡ val u j → val x i % L ≡ val x j % L → Dec (i < j) → ⊥
+    split : (i j : ℕ) → i < s .«op_count» → j < s .«op_count» → Rivals s i j → vec u i ≡ vec u j → vec x i % L ≡ vec x j % L → Dec (i < j) → ⊥
     split i j h k r e o (yes l) = seats-apart p x u seats q i j l (op-of k) (meet i j h k r o) e
     split i j h k r e o (no l) = seats-apart p x u seats q j i (before i j l (r .different)) (op-of h)
         (meet j i k h (record { different = λ z. r .different (sym z); oneType = sym (r .oneType); limited = subst (λ (v : ℕ). 0 < typeAt s v .instances) (r .oneType) (r .limited) }) (sym o)) (sym e)
@@ -106,23 +107,23 @@ module _ (s : Sheet) (L : ℕ) (table : List (List ℤ)) (p : Task) (ok : InRang
             at (yes z) = z
             at (no z) = let e : a ≡ b = omega arith in absurd (d e)
 
-    pub plan-from : Plan s L (val x) (val u)
+    pub plan-from : Plan s L (vec x) (vec u)
     plan-from = record {
       start = allowed;
-      dependence = task-meets s L table p ok iv f (val x) q;
+      dependence = task-meets s L table p ok iv f (vec x) q;
       instance = λ i h. record {
-        limited = λ l. subst (λ (a : ℕ). val u i < a) (limit-of i h) (seats-below p x u seats q i (op-of h) (subst (λ (a : ℕ). 0 < a) (sym (limit-of i h)) l));
+        limited = λ l. subst (λ (a : ℕ). vec u i < a) (limit-of i h) (seats-below p x u seats q i (op-of h) (subst (λ (a : ℕ). 0 < a) (sym (limit-of i h)) l));
         unlimited = λ e. seats-zero p x u seats i (op-of h) (limit-of i h ∙ e);
       };
       apart = λ i j h k r e o. split i j h k r e o (decLt i j);
     }
 
     -- of all instances for these starts the seats come first
-    pub instances-first : (t' u' : ℕ → ℕ) → Plan s L t' u' → Same (s .«op_count») (val x) t' → Before (p .ops) (val u) u'
-    instances-first t' u' o e = lowest-first (Rival p (val x)) (λ k. u' k + 1) (val u) (p .ops) (seats-lowest p x u seats) u' (record {
+    pub instances-first : (t' u' : ℕ → ℕ) → Plan s L t' u' → Same (s .«op_count») (vec x) t' → Before (p .ops) (vec u) u'
+    instances-first t' u' o e = lowest-first (Rival p (vec x)) (λ k. u' k + 1) (vec u) (p .ops) (seats-lowest p x u seats) u' (record {
       below = λ k h. omega arith;
       apart = λ i k l h m same. o .apart i k (op-in f (omega arith)) (op-in f h) (rivals i k l (op-in f h) (m .0 .type) (m .1)) same
-          (sym (ap (λ (v : ℕ). v % L) (e i (op-in f (omega arith)))) ∙ slots (val x i) (val x k) (m .0 .slot) ∙ ap (λ (v : ℕ). v % L) (e k (op-in f h)));
+          (sym (ap (λ (v : ℕ). v % L) (e i (op-in f (omega arith)))) ∙ slots (vec x i) (vec x k) (m .0 .slot) ∙ ap (λ (v : ℕ). v % L) (e k (op-in f h)));
     })
 
   -- ---- the domain
@@ -147,11 +148,11 @@ module _ (s : Sheet) (L : ℕ) (table : List (List ℤ)) (p : Task) (ok : InRang
       none-found e t u q = r .none e t (plan-of t u q) (in-domain t (q .start))
 
       module _ (e : found ≡ true) (y u w : List ℕ) (cy : Cut (s .«op_count») x y) (seats : Seats p y u) (cw : Cut (s .«op_count») u w) where
-        plan-y : task.PlanOf p (val y)
-        plan-y = laws.plan-local p (task-ok s L table p ok iv f) (val x) (val y) (λ i h. cy .front i (op-in f h)) (r .plan e)
+        plan-y : task.PlanOf p (vec y)
+        plan-y = laws.plan-local p (task-ok s L table p ok iv f) (vec x) (vec y) (λ i h. cy .front i (op-in f h)) (r .plan e)
 
-        allowed-y : (i : ℕ) → i < s .«op_count» → StartAllowed s L i (val y i)
-        allowed-y i h = subst (StartAllowed s L i) (cy .front i h) (of-domain (val x) (r .inside e) i h)
+        allowed-y : (i : ℕ) → i < s .«op_count» → StartAllowed s L i (vec y i)
+        allowed-y i h = subst (StartAllowed s L i) (cy .front i h) (of-domain (vec x) (r .inside e) i h)
 
         before-less : {a b : ℕ → ℕ} → Before (p .ops) a b → Same (s .«op_count») a b ⊎ Less (s .«op_count») a b
         before-less o = ⊎-elim (λ z. inl (λ i h. z i (op-of h))) (λ z. inr (record { at = z .0; within = op-in f (z .1); equal = z .3; less = z .2 })) (o .case)
@@ -159,9 +160,9 @@ module _ (s : Sheet) (L : ℕ) (table : List (List ℤ)) (p : Task) (ok : InRang
         less-left : {a b c : ℕ → ℕ} → Same (s .«op_count») a b → Less (s .«op_count») a c → Less (s .«op_count») b c
         less-left z l = record { at = l .at; within = l .within; equal = λ i h. sym (z i (omega (arith, l .within))) ∙ l .equal i h; less = omega (arith, z (l .at) (l .within), l .less) }
 
-        pub first-found : First s L (column y) (column w)
+        pub first-found : First s L (vec y) (vec w)
         first-found = record {
-          plan = plan-local s L ok (val y) (val u) (val y) (val w) (λ i h. refl) (cw .front) (plan-from y u seats plan-y allowed-y);
+          plan = plan-local s L ok (vec y) (vec u) (vec y) (vec w) (λ i h. refl) (cw .front) (plan-from y u seats plan-y allowed-y);
           first = λ t' u' q. ⊎-elim
               (λ z. let same = same-trans (same-sym (cy .front)) z in
               ⊎-elim (λ v. inl (same, same-trans (same-sym (cw .front)) v)) (λ v. inr (inr (same, less-left (cw .front) v)))

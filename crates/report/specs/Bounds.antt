@@ -7,12 +7,12 @@ use native.Mathlib.Omega.{arith}
 use native.Mathlib.Decide.{decLt}
 use lib.IntN.{ℤ, pos}
 use lib.ListN.{length, getD, take, length-append, length-take}
+use Rattle.laws.specs.Entry.{vec}
 use Rattle.text.specs.Text.{digits, signedText, endOf, joined, lineText}
 use Rattle.text.specs.Decimal.{length-one, length-more}
 use Rattle.sheet.specs.declared.Sheet.{Sheet}
 use Rattle.sheet.specs.Text.{Line, linesText}
 use Rattle.plan.specs.declared.PlanAnswer.{PlanAnswer}
-use Rattle.plan.specs.Answers.{column}
 use Rattle.report.specs.Print.{answerLine, intervalLine, loopLine, atLine, each, detail, intervalLines}
 use Rattle.report.specs.Small.{Small}
 use Rattle.report.specs.Places.{detail-0, detail-5, detail-else}
@@ -41,7 +41,7 @@ none-bound : length (joined []) ≡ 0
 unfolding joined
 none-bound = refl
 
-numbers-bound : (ks : List ℕ) → ((i : ℕ) → column ks i ≤ 999) → length (joined (map pos ks)) ≤ 4 * length ks
+numbers-bound : (ks : List ℕ) → ((i : ℕ) → vec ks i ≤ 999) → length (joined (map pos ks)) ≤ 4 * length ks
 numbers-bound [] h = let z = none-bound in omega arith
 numbers-bound (k ∷ ks) h =
     let a = value-bound k (map pos ks) (h 0) in
@@ -80,7 +80,7 @@ each-bound (suc n) t u f g =
     let c = each-bound n (λ i. t (suc i)) (λ i. u (suc i)) (λ i. f (suc i)) (λ i. g (suc i)) in
     omega arith
 
-take-small : (n : ℕ) (ks : List ℕ) → ((i : ℕ) → column ks i ≤ 999) → (i : ℕ) → column (take n ks) i ≤ 999
+take-small : (n : ℕ) (ks : List ℕ) → ((i : ℕ) → vec ks i ≤ 999) → (i : ℕ) → vec (take n ks) i ≤ 999
 take-small zero ks h i = omega arith
 take-small (suc n) [] h i = omega arith
 take-small (suc n) (k ∷ ks) h zero = h 0
@@ -101,7 +101,7 @@ module _ (s : Sheet) (L : ℕ) (a : PlanAnswer) (small : Small s L a) where
   plan-bound e =
       let h = head-bound in
       let d = ap (λ (ls : List Line). length (linesText ls)) (detail-0 s L a e) in
-      let b = each-bound (s .«op_count») (column (a .starts)) (column (a .instances)) (small .starts) (small .instances) in
+      let b = each-bound (s .«op_count») (vec (a .starts)) (vec (a .instances)) (small .starts) (small .instances) in
       let o = small .ops in
       omega arith
 

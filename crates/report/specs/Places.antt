@@ -9,13 +9,13 @@ use lib.IntN.{ℤ, pos}
 use lib.ListN.{length, getD, take, length-map, List·getD-map}
 use lib.Seq.{ext-getD}
 use borrow.Author.Tests.{eq-eqb, ne-eqb}
+use Rattle.laws.specs.Entry.{vec}
 use Rattle.text.specs.Text.{lineText}
 use Rattle.text.specs.Line.{keyOf, textOf}
 use Rattle.text.specs.Joined.{line-text}
 use Rattle.sheet.specs.declared.Sheet.{Sheet}
 use Rattle.sheet.specs.Text.{Line, linesText}
 use Rattle.plan.specs.declared.PlanAnswer.{PlanAnswer}
-use Rattle.plan.specs.Answers.{column}
 use Rattle.writer.specs.Lines.{noLine}
 use Rattle.report.specs.Print.{answerLine, intervalLine, loopLine, atLine, each, detail, intervalLines}
 
@@ -31,7 +31,7 @@ each-at (suc n) f zero h = refl
 each-at (suc n) f (suc i) h = each-at n (λ i. f (suc i)) i (omega arith)
 
 module _ (s : Sheet) (L : ℕ) (a : PlanAnswer) where
-  pub detail-0 : a .answer ≡ 0 → detail s a ≡ each (s .«op_count») (λ i. atLine (column (a .starts) i) (column (a .instances) i))
+  pub detail-0 : a .answer ≡ 0 → detail s a ≡ each (s .«op_count») (λ i. atLine (vec (a .starts) i) (vec (a .instances) i))
   unfolding detail
   detail-0 e = rw (eq-eqb (a .answer) 0 e)
 
@@ -45,7 +45,7 @@ module _ (s : Sheet) (L : ℕ) (a : PlanAnswer) where
 
   pub count-0 : a .answer ≡ 0 → length (intervalLines s L a) ≡ 2 + s .«op_count»
   unfolding intervalLines
-  count-0 e = let n = ap length (detail-0 e) ∙ each-length (s .«op_count») (λ i. atLine (column (a .starts) i) (column (a .instances) i)) in omega arith
+  count-0 e = let n = ap length (detail-0 e) ∙ each-length (s .«op_count») (λ i. atLine (vec (a .starts) i) (vec (a .instances) i)) in omega arith
 
   pub count-5 : a .answer ≡ 5 → length (intervalLines s L a) ≡ 3
   unfolding intervalLines
@@ -72,10 +72,10 @@ module _ (s : Sheet) (L : ℕ) (a : PlanAnswer) where
       past-two i (omega arith) ∙ ap (λ (ls : List Line). getD ls (i - 2) noLine) (detail-5 e)
       ∙ (let z : i - 2 ≡ 0 = omega arith in ap (λ (k : ℕ). getD (loopLine (take (a .«loop_length») (a .«loop_edges»)) ∷ []) k noLine) z)
 
-  pub at-place : (i : ℕ) → a .answer ≡ 0 → 2 ≤ i → i - 2 < s .«op_count» → getD (intervalLines s L a) i noLine ≡ atLine (column (a .starts) (i - 2)) (column (a .instances) (i - 2))
+  pub at-place : (i : ℕ) → a .answer ≡ 0 → 2 ≤ i → i - 2 < s .«op_count» → getD (intervalLines s L a) i noLine ≡ atLine (vec (a .starts) (i - 2)) (vec (a .instances) (i - 2))
   at-place i e h g =
       past-two i h ∙ ap (λ (ls : List Line). getD ls (i - 2) noLine) (detail-0 e)
-      ∙ each-at (s .«op_count») (λ k. atLine (column (a .starts) k) (column (a .instances) k)) (i - 2) g
+      ∙ each-at (s .«op_count») (λ k. atLine (vec (a .starts) k) (vec (a .instances) k)) (i - 2) g
 
   -- past the first two lines, with no loop, there is a plan
   pub only-plan : (i : ℕ) → i < length (intervalLines s L a) → (a .answer ≡ 5 → ⊥) → 2 ≤ i → (a .answer ≡ 0) × (i - 2 < s .«op_count»)

@@ -6,12 +6,13 @@ use mathlib.Core.List.{List, [], _∷_, _++_, map}
 use lib.Dec.{eqb}
 use lib.ListN.{take}
 use lib.IntN.{pos}
+use Rattle.laws.specs.Entry.{vec}
 use Rattle.text.specs.Keys as key
 use Rattle.sheet.specs.declared.Sheet.{Sheet}
 use Rattle.sheet.specs.Text.{Line, countLine}
 use Rattle.reader.specs.Read.{readOf}
 use Rattle.plan.specs.declared.PlanAnswer.{PlanAnswer}
-use Rattle.plan.specs.Answers.{column, PlanAt}
+use Rattle.plan.specs.Answers.{PlanAt}
 
 -- `answer=` with 0 or the refusal
 abbrev pub answerLine : ℕ → Line
@@ -38,7 +39,7 @@ each (suc n) f = f 0 ∷ each n (λ i. f (suc i))
 unfoldable pub detail : Sheet → PlanAnswer → List Line
 detail s a =
     cond (eqb (a .answer) 0)
-    (each (s .«op_count») (λ i. atLine (column (a .starts) i) (column (a .instances) i)))
+    (each (s .«op_count») (λ i. atLine (vec (a .starts) i) (vec (a .instances) i)))
     (cond (eqb (a .answer) 5) (loopLine (take (a .«loop_length») (a .«loop_edges»)) ∷ []) [])
 
 -- the lines of one interval

@@ -6,6 +6,7 @@ use Prim.Native.Nat.{ℕ, zero, suc, _≤_, _<_}
 use native.Mathlib.Omega.{arith}
 use native.Mathlib.Decide.{decLt}
 use lib.ListN.{length, getD, replicate}
+use Rattle.laws.specs.Entry.{zeros, vec}
 use Rattle.dependence.specs.declared.Graph.{Graph}
 use Rattle.dependence.specs.Graph.{edgeAt}
 use Rattle.dependence.specs.Rules.{Chain, here, step}
@@ -14,11 +15,11 @@ use Rattle.sheet.specs.Sheet.{InRange, Interval, graphOf, typeOf}
 use Rattle.sheet.specs.Facts.{horizon-most, cap-most, ops-most, edges-most, op-instances-most}
 use Rattle.plan.specs.declared.PlanAnswer.{PlanAnswer}
 use Rattle.plan.specs.Rules.{Plan, InstanceAllowed}
-use Rattle.plan.specs.Answers.{zeros, column, PlanAt, Padded, ZeroFrom, First, out-of-range, no-interval, bad-walk, denied, given}
+use Rattle.plan.specs.Answers.{PlanAt, Padded, ZeroFrom, First, out-of-range, no-interval, bad-walk, denied, given}
 
 -- each number of a list has at most three digits
 abbrev pub SmallList : List ℕ → Type 0
-SmallList xs = (i : ℕ) → column xs i ≤ 999
+SmallList xs = (i : ℕ) → vec xs i ≤ 999
 
 -- the numbers that are printed of a plan's answer have at most three digits, and at most 24 operations have a line
 pub record Small (s : Sheet) (L : ℕ) (a : PlanAnswer) : Type 0 where
@@ -29,7 +30,7 @@ pub record Small (s : Sheet) (L : ℕ) (a : PlanAnswer) : Type 0 where
   pub instances : SmallList (a .instances)
   pub edges : SmallList (a .«loop_edges»)
 
-zero-small : (i : ℕ) → column zeros i ≤ 999
+zero-small : (i : ℕ) → vec zeros i ≤ 999
 zero-small i = go 24 i
   where
     go : (n i : ℕ) → getD (replicate n 0) i 0 ≤ 999
@@ -38,7 +39,7 @@ zero-small i = go 24 i
     go (suc n) (suc i) = go n i
 
 -- the edges of a chain are edges of the graph
-chain-small : {g : Graph} {u v : ℕ} {ks : List ℕ} → g .«edge_count» ≤ 96 → Chain g u ks v → (i : ℕ) → column ks i ≤ 999
+chain-small : {g : Graph} {u v : ℕ} {ks : List ℕ} → g .«edge_count» ≤ 96 → Chain g u ks v → (i : ℕ) → vec ks i ≤ 999
 chain-small h here i = omega arith
 chain-small h (step k c) zero = omega arith
 chain-small h (step k c) (suc i) = chain-small h c i
@@ -50,13 +51,13 @@ instance-small {s} ok i u h a = at (decLt 0 (typeOf s i .instances))
     at (yes l) = let m = op-instances-most ok i h in let b = a .limited l in omega arith
     at (no l) = let e = a .unlimited (omega arith) in omega arith
 
-module _ {s : Sheet} {L : ℕ} (ts us : List ℕ) (ok : InRange s) (p : Plan s L (column ts) (column us)) where
-  start-small : ZeroFrom (s .«op_count») ts → (i : ℕ) → Dec (i < s .«op_count») → column ts i ≤ 999
+module _ {s : Sheet} {L : ℕ} (ts us : List ℕ) (ok : InRange s) (p : Plan s L (vec ts) (vec us)) where
+  start-small : ZeroFrom (s .«op_count») ts → (i : ℕ) → Dec (i < s .«op_count») → vec ts i ≤ 999
   start-small z i (yes l) = let h = horizon-most ok in let t = p .start i l .inHorizon in omega arith
   start-small z i (no l) = let e = z .rest i (omega arith) in omega arith
 
-  unit-small : ZeroFrom (s .«op_count») us → (i : ℕ) → Dec (i < s .«op_count») → column us i ≤ 999
-  unit-small z i (yes l) = instance-small ok i (column us i) l (p .instance i l)
+  unit-small : ZeroFrom (s .«op_count») us → (i : ℕ) → Dec (i < s .«op_count») → vec us i ≤ 999
+  unit-small z i (yes l) = instance-small ok i (vec us i) l (p .instance i l)
   unit-small z i (no l) = let e = z .rest i (omega arith) in omega arith
 
 pub small : {s : Sheet} {L : ℕ} {a : PlanAnswer} → InRange s → Interval s L → PlanAt s L a → Small s L a

@@ -9,6 +9,7 @@ use native.Mathlib.Decide.{decLt, ℕ-discrete}
 use lib.ListN.{length}
 use lib.Seq.{slice}
 use lib.IntN.{ℤ, pos}
+use Rattle.laws.specs.Entry.{zeros, vec}
 use Rattle.dependence.specs.declared.Graph.{Graph}
 use Rattle.dependence.specs.Graph as dependence
 use Rattle.dependence.specs.Rules.{BadWalk, FirstBadWalk, Meets}
@@ -20,7 +21,7 @@ use Rattle.sheet.specs.Facts.{graph-in-range, interval-in-range, ops-least, ops
 use Rattle.plan.specs.declared.PlanAnswer.{PlanAnswer}
 use Rattle.plan.specs.declared.IntervalAnswer.{IntervalAnswer}
 use Rattle.plan.specs.Rules.{Plan}
-use Rattle.plan.specs.Answers.{column, zeros, refused, First, PlanAt, Least, out-of-range, no-interval, bad-walk, denied, given, least}
+use Rattle.plan.specs.Answers.{refused, First, PlanAt, Least, out-of-range, no-interval, bad-walk, denied, given, least}
 use Rattle.plan.specs.Loops.{loop-length, loop-padded}
 use Rattle.domain.specs.Domain.{FirstIn}
 use Rattle.task.specs.declared.Task.{Task}
@@ -91,7 +92,7 @@ module _ {s : Sheet} {L : ℕ} where
   no-plan (given _ _ _ _ _) ok iv a t u p = a refl
 
   -- the answer 0 to an interval: it has a plan
-  pub has-plan : {r : PlanAnswer} → PlanAt s L r → r .answer ≡ 0 → Interval s L × Plan s L (column (r .starts)) (column (r .instances))
+  pub has-plan : {r : PlanAnswer} → PlanAt s L r → r .answer ≡ 0 → Interval s L × Plan s L (vec (r .starts)) (vec (r .instances))
   has-plan (out-of-range n) a = absurd (omega arith)
   has-plan (no-interval _ n) a = absurd (omega arith)
   has-plan (bad-walk _ _ _ _ n) a = absurd (omega arith)
@@ -109,7 +110,7 @@ none-more {s} {m} b n = record { none = λ L h k. at L h k (ℕ-discrete L m) }
 pub least-answer : {s : Sheet} {L : ℕ} {r : PlanAnswer} → PlanAt s L r → InRange s → r .answer ≡ 0 → NoneBelow s L → Least s (record { answer = 0; interval = L })
 least-answer {s} {L} {r} a ok e b =
     let q = has-plan a e in
-    least ok (q .0) (column (r .starts)) (column (r .instances)) (q .1) (λ L' i t u p. at L' i t u p (decLt L' L))
+    least ok (q .0) (vec (r .starts)) (vec (r .instances)) (q .1) (λ L' i t u p. at L' i t u p (decLt L' L))
   where
     at : (L' : ℕ) → Interval s L' → (t u : ℕ → ℕ) → Plan s L' t u → Dec (L' < L) → L ≤ L'
     at L' i t u p (yes h) = absurd (b .none L' (i .low) h t u p)

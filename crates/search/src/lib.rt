@@ -4,7 +4,8 @@
 ghost use mathlib.Core.Path.{_≡_};
 ghost use mathlib.Core.Bool.{true, false};
 ghost use Prim.Native.Nat.{ℕ, _+_, _≤_, _<_};
-ghost use Rattle.domain.specs.Domain.{val, Solved, FirstIn};
+ghost use Rattle.laws.specs.Entry.{vec};
+ghost use Rattle.domain.specs.Domain.{Solved, FirstIn};
 ghost use Rattle.domain.specs.First.{Good, Lowered};
 ghost use Rattle.task.specs.Plan.{Ready, PlanOf};
 

@@ -4,6 +4,7 @@ use mathlib.Core.List.{List}
 use Prim.Native.Nat.{ℕ, _<_}
 use lib.ListN.{length}
 use lib.IntN.{ℤ}
+use Rattle.laws.specs.Entry.{zeros, vec}
 use Rattle.dependence.specs.Rules.{BadWalk, FirstBadWalk, Earliest}
 use Rattle.dependence.specs.Answer.{zeroTable, Separations}
 use Rattle.dependence.specs.declared.loops.BadWalk as loops
@@ -11,7 +12,7 @@ use Rattle.dependence.specs.declared.starts.Starts as starts
 use Rattle.dependence.specs.declared.bound.Bound as bounds
 use Rattle.sheet.specs.declared.Sheet.{Sheet}
 use Rattle.sheet.specs.Sheet.{InRange, Interval, graphOf}
-use Rattle.plan.specs.Answers.{zeros, column, Padded, ZeroFrom}
+use Rattle.plan.specs.Answers.{Padded, ZeroFrom}
 
 -- the number of a refusal, and 0 for every other number
 abbrev pub walkRefused : ℕ → loops.BadWalk
@@ -39,7 +40,7 @@ pub data StartsAt (s : Sheet) (L : ℕ) : starts.Starts → Type 0 where
   starts-no-interval : InRange s → (Interval s L → ⊥) → StartsAt s L (startsRefused 4)
   starts-bad-walk : InRange s → Interval s L → {ks es : List ℕ} → FirstBadWalk (graphOf s) L ks → Padded ks es →
       StartsAt s L (record { answer = 5; starts = zeros; «loop_length» = length ks; «loop_edges» = es })
-  starts-earliest : InRange s → Interval s L → {ts : List ℕ} → Earliest (graphOf s) L (λ i. 0) (column ts) → ZeroFrom (s .«op_count») ts →
+  starts-earliest : InRange s → Interval s L → {ts : List ℕ} → Earliest (graphOf s) L (λ i. 0) (vec ts) → ZeroFrom (s .«op_count») ts →
       StartsAt s L (record { answer = 0; starts = ts; «loop_length» = 0; «loop_edges» = zeros })
 
 -- separations; the number of a refusal is that of questions 3, 4 and 5

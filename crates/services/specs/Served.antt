@@ -7,7 +7,7 @@ use native.Mathlib.Decide.{decLt}
 use lib.ListN.{getD, length, List·getD-eq-default}
 use lib.IntN.{ℤ}
 use Rattle.laws.specs.Store.{all-zero}
-use Rattle.laws.specs.Entry.{vec}
+use Rattle.laws.specs.Entry.{zeros, vec}
 use Rattle.dependence.specs.Rules.{Earliest}
 use Rattle.dependence.specs.Answer.{WalkAnswer, walk-three, walk-four, walk-five, walk-none, StartsAnswer, starts-three, starts-four, starts-five, starts-found, TableAnswer, table-refused, table-bad, table-found, Separations, BoundAnswer, bound-three, bound-eight, bound-found}
 use Rattle.dependence.specs.declared.loops.BadWalk as loops
@@ -16,7 +16,6 @@ use Rattle.dependence.specs.declared.bound.Bound as bounds
 use Rattle.sheet.specs.declared.Sheet.{Sheet}
 use Rattle.sheet.specs.Sheet.{InRange, Interval, graphOf}
 use Rattle.sheet.specs.Facts.{graph-in-range, interval-in-range, cap-in-range}
-use Rattle.plan.specs.Answers.{zeros, column}
 use Rattle.plan.specs.Loops.{loop-length, loop-padded}
 use Rattle.services.specs.Answers.{walkRefused, startsRefused, WalkAt, walk-first, walk-clear, StartsAt, starts-bad-walk, starts-earliest, SeparationsAt, no-separations, separations-found, RecurrenceAt, bound-none, bound-least}
 
@@ -43,7 +42,7 @@ module _ (s : Sheet) (L : ℕ) (ok : InRange s) (iv : Interval s L) where
         least = λ x h m i l. t .least x (λ j q. let n = all-zero 24 j in omega arith) m i l;
       }) (record { whole = lt; rest = λ i h. past i h (decLt i 24) }))
     where
-      past : (i : ℕ) → s .«op_count» ≤ i → Dec (i < 24) → column (w .starts) i ≡ 0
+      past : (i : ℕ) → s .«op_count» ≤ i → Dec (i < 24) → vec (w .starts) i ≡ 0
       past i h (yes q) = rest i h q
       past i h (no q) = List·getD-eq-default (w .starts) 0 (omega arith)
 

@@ -1,10 +1,11 @@
 -- Slot order: what each answer says, in terms of the plan at the interval. Each pins the whole result and carries why it is right.
 use Prim.Native.Nat.{ℕ, _*_, _-_, _/_, _<_}
 use mathlib.Core.Path.{_≡_}
+use Rattle.laws.specs.Entry.{vec}
 use Rattle.sheet.specs.declared.Sheet.{Sheet}
 use Rattle.plan.specs.declared.PlanAnswer.{PlanAnswer}
 use Rattle.plan.specs.Rules.{Rivals, slot}
-use Rattle.plan.specs.Answers.{PlanAt, column}
+use Rattle.plan.specs.Answers.{PlanAt}
 use Rattle.slot_order.specs.Pairs.{Pair}
 use Rattle.slot_order.specs.declared.SlotOrder.{SlotOrder}
 
@@ -28,4 +29,4 @@ pub data SlotOrderAt (s : Sheet) (L pair : ℕ) : SlotOrder → Type 0 where
   no-rivals : (p : PlanAnswer) → PlanAt s L p → p .answer ≡ 0 → (i j : ℕ) → Pair (s .«op_count») pair i j → (Rivals s i j → ⊥) → SlotOrderAt s L pair (refused 15)
   -- the order of the slots in the plan given
   ordered : (p : PlanAnswer) → PlanAt s L p → p .answer ≡ 0 → (i j : ℕ) → Pair (s .«op_count») pair i j → Rivals s i j →
-      {o : ℕ} → Order (slot L (column (p .starts) i)) (slot L (column (p .starts) j)) o → SlotOrderAt s L pair (record { answer = 0; order = o })
+      {o : ℕ} → Order (slot L (vec (p .starts) i)) (slot L (vec (p .starts) j)) o → SlotOrderAt s L pair (record { answer = 0; order = o })

@@ -3,12 +3,13 @@
 use mathlib.Core.Path.{_≡_, refl, sym, ap, subst, _∙_}
 use Prim.Native.Nat.{ℕ}
 use native.Mathlib.Omega.{arith}
+use Rattle.laws.specs.Entry.{vec}
 use Rattle.sheet.specs.declared.Sheet.{Sheet}
 use Rattle.sheet.specs.Sheet.{InRange}
 use Rattle.sheet.specs.Facts.{ops-most}
 use Rattle.plan.specs.declared.PlanAnswer.{PlanAnswer}
 use Rattle.plan.specs.Rules.{Rivals, slot}
-use Rattle.plan.specs.Answers.{PlanAt, column, out-of-range, no-interval, bad-walk, denied, given}
+use Rattle.plan.specs.Answers.{PlanAt, out-of-range, no-interval, bad-walk, denied, given}
 use Rattle.plan.specs.Unique.{plan-at-unique}
 use Rattle.slot_order.specs.Pairs.{pair-below, pair-unique}
 use Rattle.slot_order.specs.Answers.{Order, same, first, second, SlotOrderAt, no-plan, no-pair, no-rivals, ordered}
@@ -60,8 +61,8 @@ module _ {s : Sheet} {L pair : ℕ} where
   slot-order-unique (ordered p a e i j k n {o} x) (ordered q b f i' j' k' m {o = o'} y) =
       let u = pair-unique (ops-most (given-range a e)) k' k in
       let z = sym (plan-at-unique a b) in
-      let w : Order (slot L (column (p .starts) i)) (slot L (column (p .starts) j)) o' =
-      subst (λ (c : PlanAnswer). Order (slot L (column (c .starts) i)) (slot L (column (c .starts) j)) o') z
-      (subst (λ (h : ℕ). Order (slot L (column (q .starts) h)) (slot L (column (q .starts) j)) o') (u .0)
-      (subst (λ (h : ℕ). Order (slot L (column (q .starts) i')) (slot L (column (q .starts) h)) o') (u .1) y)) in
+      let w : Order (slot L (vec (p .starts) i)) (slot L (vec (p .starts) j)) o' =
+      subst (λ (c : PlanAnswer). Order (slot L (vec (c .starts) i)) (slot L (vec (c .starts) j)) o') z
+      (subst (λ (h : ℕ). Order (slot L (vec (q .starts) h)) (slot L (vec (q .starts) j)) o') (u .0)
+      (subst (λ (h : ℕ). Order (slot L (vec (q .starts) i')) (slot L (vec (q .starts) h)) o') (u .1) y)) in
       ap (λ (k : ℕ). record { answer = 0; order = k }) (order-unique x w)

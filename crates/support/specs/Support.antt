@@ -5,7 +5,8 @@ use mathlib.Core.List.{List}
 use Prim.Native.Nat.{ℕ, _≤_, _<_}
 use lib.IntN.{ℤ, pos, negsuc, _+ℤ_}
 use lib.Signed.{_≤ℤ_, _<ℤ_}
-use Rattle.domain.specs.Domain.{has, val, Part}
+use Rattle.laws.specs.Entry.{vec}
+use Rattle.domain.specs.Domain.{has, Part}
 
 -- a lag within a million of 0
 pub record Far (z : ℤ) : Type 0 where
@@ -43,7 +44,7 @@ pub record Earlier (b : Bool) (a later r : ℕ) : Type 0 where
 
 -- from a on, entry k is no more than any start of the row that is at least k
 pub record NextFrom (q : List Bool) (a : ℕ) (next : List ℕ) : Type 0 where
-  pub upto : (k : ℕ) → a ≤ k → k ≤ 128 → (x : ℕ) → k ≤ x → x < 128 → has q x ≡ true → val next k ≤ x
+  pub upto : (k : ℕ) → a ≤ k → k ≤ 128 → (x : ℕ) → k ≤ x → x < 128 → has q x ≡ true → vec next k ≤ x
 
 -- the row r has the starts of `row` that some start of q supports
 pub record Supported (q row : List Bool) (there back : ℤ) (r : List Bool) : Type 0 where

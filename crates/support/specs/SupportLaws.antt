@@ -11,15 +11,16 @@ use lib.Signed.{_≤ℤ_, _<ℤ_, nonNeg}
 use lib.Dec.{T}
 use mir.Syntax.{w32}
 use mir.Val.{SFits}
+use Rattle.laws.specs.Entry.{vec}
 use Rattle.laws.specs.Store.{store}
 use Rattle.laws.specs.Z.{true-false, zed, sum, minus, up, nonneg, fits-show}
-use Rattle.domain.specs.Domain.{has, val, Under}
+use Rattle.domain.specs.Domain.{has, Under}
 use Rattle.support.specs.Support.{Far, Clip, LowEnd, HighEnd, LowIf, HighIf, Earlier, NextFrom, SupportedBy, At}
 
 pub next-none : (q : List Bool) (next : List ℕ) → NextFrom q 128 next
 next-none q next = record { upto = λ k a b x c d. absurd (omega arith) }
 
-pub next-more : {q : List Bool} {next : List ℕ} {a r : ℕ} → a < 128 → length next ≡ 129 → NextFrom q (a + 1) next → Earlier (has q a) a (val next (a + 1)) r → NextFrom q a (set next a r)
+pub next-more : {q : List Bool} {next : List ℕ} {a r : ℕ} → a < 128 → length next ≡ 129 → NextFrom q (a + 1) next → Earlier (has q a) a (vec next (a + 1)) r → NextFrom q a (set next a r)
 next-more {q} {next} {a} {r} l len n e = record {
   upto = λ k h1 h2 x h3 h4 y.
       store (λ j z. j ≡ k → z ≤ x) next a r 0 (omega arith) (λ c. at x (omega arith) h4 y (has q a) refl) k (λ ne c. n .upto k (omega arith) h2 x h3 h4 y) refl;
@@ -33,7 +34,7 @@ next-more {q} {next} {a} {r} l len n e = record {
         pick (yes c) = absurd (true-false (sym y ∙ ap (λ (j : ℕ). has q j) c ∙ q1))
         pick (no c) = omega (arith, e .no q1, n .upto (a + 1) (omega arith) (omega arith) x (omega arith) h4 y)
 
-pub supported-at : {next : List ℕ} {b r : Bool} {there back : ℤ} {t : ℕ} (lo end : ℕ) → LowIf b t back lo → HighIf b t there end → Under b (val next lo) end r → At next b there back t r
+pub supported-at : {next : List ℕ} {b r : Bool} {there back : ℤ} {t : ℕ} (lo end : ℕ) → LowIf b t back lo → HighIf b t there end → Under b (vec next lo) end r → At next b there back t r
 supported-at lo end l h u = record {
   was = λ y. u .yes y .0;
   stays = λ q n x hx hq hb a c. u .back hb (omega (arith, n .upto lo (omega arith) (l .within) x (l .when hb .low x hx c) hx hq, h .when hb .high x hx a));
@@ -79,5 +80,5 @@ one-fits t h = fits-show (omega (arith, zed, sum (pos t) (pos 1))) (omega (arith
 pub high-fits : (t : ℕ) {lag : ℤ} → t < 128 → Far lag → SFits w32 ((pos t +ℤ pos 1) -ℤ lag)
 high-fits t {lag} h f = fits-show (omega (arith, zed, sum (pos t) (pos 1), minus (pos t +ℤ pos 1) lag)) (omega (arith, zed, sum (pos t) (pos 1), minus (pos t +ℤ pos 1) lag))
 
-pub next-step : (q : List Bool) (next : List ℕ) (a k r : ℕ) → a ≡ k + 1 → k < 128 → length next ≡ 129 → NextFrom q a next → Earlier (has q k) k (val next a) r → NextFrom q k (set next k r)
-next-step q next a k r e l len n h = next-more l len (subst (λ (j : ℕ). NextFrom q j next) e n) (subst (λ (j : ℕ). Earlier (has q k) k (val next j) r) e h)
+pub next-step : (q : List Bool) (next : List ℕ) (a k r : ℕ) → a ≡ k + 1 → k < 128 → length next ≡ 129 → NextFrom q a next → Earlier (has q k) k (vec next a) r → NextFrom q k (set next k r)
+next-step q next a k r e l len n h = next-more l len (subst (λ (j : ℕ). NextFrom q j next) e n) (subst (λ (j : ℕ). Earlier (has q k) k (vec next j) r) e h)

@@ -7,8 +7,8 @@ use lib.Dec.{eqb}
 use lib.IntN.{ℤ, pos, negsuc, _+ℤ_}
 use lib.Signed.{_≤ℤ_, leZ}
 use lib.ListN.{getD}
+use Rattle.laws.specs.Entry.{vec}
 use Rattle.laws.specs.Count.{bit, tally}
-use Rattle.domain.specs.Domain.{val}
 use Rattle.task.specs.declared.Task.{Task}
 
 -- the type of operation i
@@ -82,12 +82,12 @@ pub record Ready (p : Task) : Type 0 where
 
 -- the starts x of n operations are below 128
 pub record Small (n : ℕ) (x : List ℕ) : Type 0 where
-  pub small : (i : ℕ) → i < n → val x i < 128
+  pub small : (i : ℕ) → i < n → vec x i < 128
 
 -- r tells whether the starts x keep every dependence; where not, they are no plan's
 pub record EdgesMet (p : Task) (x : List ℕ) (r : Bool) : Type 0 where
-  pub yes : r ≡ true → (e : ℕ) → e < p .edges → (pos (val x (fromOf p e)) +ℤ totalAt p e) ≤ℤ pos (val x (toOf p e))
-  pub no : r ≡ false → PlanOf p (val x) → ⊥
+  pub yes : r ≡ true → (e : ℕ) → e < p .edges → (pos (vec x (fromOf p e)) +ℤ totalAt p e) ≤ℤ pos (vec x (toOf p e))
+  pub no : r ≡ false → PlanOf p (vec x) → ⊥
 
 -- r tells whether c operations are too many for a type with a instances; an unlimited type takes all
 pub record Over (a c : ℕ) (r : Bool) : Type 0 where
@@ -100,10 +100,10 @@ crowdAt p t i = tally (p .ops) (held (typeOf p) t (p .interval) (typeOf p i) (t 
 
 -- r tells whether no slot has more operations of a limited type than the type has instances; where some has, x is no plan's
 pub record RoomKept (p : Task) (x : List ℕ) (r : Bool) : Type 0 where
-  pub yes : r ≡ true → (i : ℕ) → i < p .ops → 0 < instancesOf p (typeOf p i) → crowdAt p (val x) i ≤ instancesOf p (typeOf p i)
-  pub no : r ≡ false → PlanOf p (val x) → ⊥
+  pub yes : r ≡ true → (i : ℕ) → i < p .ops → 0 < instancesOf p (typeOf p i) → crowdAt p (vec x) i ≤ instancesOf p (typeOf p i)
+  pub no : r ≡ false → PlanOf p (vec x) → ⊥
 
 -- r tells whether the starts x are a plan's
 pub record IsPlan (p : Task) (x : List ℕ) (r : Bool) : Type 0 where
-  pub yes : r ≡ true → PlanOf p (val x)
-  pub no : r ≡ false → PlanOf p (val x) → ⊥
+  pub yes : r ≡ true → PlanOf p (vec x)
+  pub no : r ≡ false → PlanOf p (vec x) → ⊥

@@ -5,7 +5,7 @@ ghost use mathlib.Core.Path.{_≡_};
 ghost use mathlib.Core.Bool.{true, false};
 ghost use Prim.Native.Nat.{ℕ, _+_, _≤_, _<_};
 ghost use lib.IntN.{pos};
-ghost use Rattle.domain.specs.Domain.{val};
+ghost use Rattle.laws.specs.Entry.{vec};
 ghost use Rattle.task.specs.Plan.{Near, PlanOf, TaskOk, Small, EdgesMet, Over, RoomKept, IsPlan, meetsZ, bitOf, held};
 ghost use Rattle.laws.specs.Count.{tally};
 
@@ -67,7 +67,7 @@ fn held_bit(resource: usize, start: usize, l: usize, r: usize, s: usize) -> usiz
 // How many operations of type r are in slot s.
 fn crowd(resource: [usize; 24], x: [usize; 24], n: usize, l: usize, r: usize, s: usize) -> usize
     requires { ⌜ (0 < l) × (n ≤ 24) ⌝ }
-    ensures { λ c. ⌜ c ≡ tally n (held (val resource) (val x) l r s) ⌝ }
+    ensures { λ c. ⌜ c ≡ tally n (held (vec resource) (vec x) l r s) ⌝ }
 {
     let mut c: usize = 0;
     let mut i: usize = 0;

@@ -9,22 +9,23 @@ use native.Mathlib.Nat.{mod-lt}
 use native.Mathlib.Decide.{ℕ-discrete, decLt}
 use lib.Dec.{eqb, ltb, leb}
 use borrow.Author.Tests.{eqb-true, eq-eqb, ltb-true, lt-ltb, leb-true}
+use Rattle.laws.specs.Entry.{vec}
 use Rattle.laws.specs.Z.{true-false}
 use Rattle.laws.specs.Count.{tally, tally-some, tally-le, tally-lt, tally-cover, both-true, both-show}
-use Rattle.domain.specs.Domain.{has, val}
+use Rattle.domain.specs.Domain.{has}
 use Rattle.task.specs.Plan.{held}
 use Rattle.windows.specs.SlotLaws.{off-slot}
 use Rattle.windows.specs.Window.{off, slotAt, nearW, insideB, Room, Fits, Barred, More, Raised, RaiseOne}
 
 -- the same in the midst of it: the window of w slots takes at most cap operations
 pub record Caps (n : ℕ) (ty : ℕ → ℕ) (l a r s : ℕ) (used : List Bool) (reach : List ℕ) (w cap : ℕ) (bar : List ℕ) : Type 0 where
-  pub caps : (t : ℕ → ℕ) → Room n ty l a r t → Fits n ty l r s used reach t → (tally n (nearW ty t l r s w) ≤ cap) × ((i : ℕ) → i < n → ty i ≡ r → val bar i ≤ off l s (t i % l))
+  pub caps : (t : ℕ → ℕ) → Room n ty l a r t → Fits n ty l r s used reach t → (tally n (nearW ty t l r s w) ≤ cap) × ((i : ℕ) → i < n → ty i ≡ r → vec bar i ≤ off l s (t i % l))
 
 module _ (n : ℕ) (ty : ℕ → ℕ) (l a r s : ℕ) (hl : 0 < l) (hs : s < l) (used : List Bool) (reach : List ℕ) where
   slot-lt : (t : ℕ → ℕ) (i : ℕ) → t i % l < l
   slot-lt t i = mod-lt (t i) (hl)
 
-  pub caps-start : {bar : List ℕ} → ((i : ℕ) → i < n → val bar i ≡ 0) → Caps n ty l a r s used reach 0 0 bar
+  pub caps-start : {bar : List ℕ} → ((i : ℕ) → i < n → vec bar i ≡ 0) → Caps n ty l a r s used reach 0 0 bar
   caps-start {bar} z = record { caps = λ t pl f. (none t, λ i l e. omega (arith, z i l)) }
     where
       none : (t : ℕ → ℕ) → tally n (nearW ty t l r s 0) ≤ 0
@@ -58,18 +59,18 @@ module _ (n : ℕ) (ty : ℕ → ℕ) (l a r s : ℕ) (hl : 0 < l) (hs : s < l) 
       )
 
   -- an operation that reaches at most w is in the window
-  inside-near : (w : ℕ) (t : ℕ → ℕ) → Fits n ty l r s used reach t → (i : ℕ) → i < n → insideB ty (val reach) r w i ≡ true → nearW ty t l r s w i ≡ true
-  inside-near w t f i h e = let q = both-true (eqb (ty i) r) (leb (val reach i) w) e in both-show _ _ (q .0) (lt-ltb (off l s (t i % l)) w (omega (arith, f .reaches i h (eqb-true _ _ (q .0)), leb-true (val reach i) w (q .1))))
+  inside-near : (w : ℕ) (t : ℕ → ℕ) → Fits n ty l r s used reach t → (i : ℕ) → i < n → insideB ty (vec reach) r w i ≡ true → nearW ty t l r s w i ≡ true
+  inside-near w t f i h e = let q = both-true (eqb (ty i) r) (leb (vec reach i) w) e in both-show _ _ (q .0) (lt-ltb (off l s (t i % l)) w (omega (arith, f .reaches i h (eqb-true _ _ (q .0)), leb-true (vec reach i) w (q .1))))
 
   -- too many operations reach at most w: no plan
-  pub caps-over : {w cap c : ℕ} {bar bar′ : List ℕ} → Caps n ty l a r s used reach w cap bar → c ≡ tally n (insideB ty (val reach) r w) → cap < c → Barred n ty l a r s used reach true bar′
-  caps-over {w} {cap} k e h = record { safe = λ t pl f. absurd (omega (arith, k .caps t pl f .0, e, tally-le n (insideB ty (val reach) r w) (nearW ty t l r s w) (inside-near w t f))) }
+  pub caps-over : {w cap c : ℕ} {bar bar′ : List ℕ} → Caps n ty l a r s used reach w cap bar → c ≡ tally n (insideB ty (vec reach) r w) → cap < c → Barred n ty l a r s used reach true bar′
+  caps-over {w} {cap} k e h = record { safe = λ t pl f. absurd (omega (arith, k .caps t pl f .0, e, tally-le n (insideB ty (vec reach) r w) (nearW ty t l r s w) (inside-near w t f))) }
 
   -- as many as the window takes: the others are outside
-  pub caps-full : {w cap c : ℕ} {full : Bool} {bar out : List ℕ} → Caps n ty l a r s used reach w cap bar → c ≡ tally n (insideB ty (val reach) r w) → (full ≡ true → c ≡ cap) → Raised n full bar ty reach r w out → Caps n ty l a r s used reach w cap out
+  pub caps-full : {w cap c : ℕ} {full : Bool} {bar out : List ℕ} → Caps n ty l a r s used reach w cap bar → c ≡ tally n (insideB ty (vec reach) r w) → (full ≡ true → c ≡ cap) → Raised n full bar ty reach r w out → Caps n ty l a r s used reach w cap out
   caps-full {w} {cap} {c} {full} {bar} {out} k e h u = record { caps = λ t pl f. let q = k .caps t pl f in (q .0, λ i m y. ⊎-elim (λ x. omega (arith, x, q .1 i m y)) (λ x. omega (arith, x .3, outside t pl f i m y (x .0) (x .2) (q .0))) (u .each i m)) }
     where
-      outside : (t : ℕ → ℕ) → Room n ty l a r t → Fits n ty l r s used reach t → (i : ℕ) → i < n → ty i ≡ r → full ≡ true → w < val reach i → tally n (nearW ty t l r s w) ≤ cap → w ≤ off l s (t i % l)
+      outside : (t : ℕ → ℕ) → Room n ty l a r t → Fits n ty l r s used reach t → (i : ℕ) → i < n → ty i ≡ r → full ≡ true → w < vec reach i → tally n (nearW ty t l r s w) ≤ cap → w ≤ off l s (t i % l)
       outside t pl f i m y g z q = pick (decLt (off l s (t i % l)) w)
         where
           pick : Dec (off l s (t i % l) < w) → w ≤ off l s (t i % l)
@@ -79,8 +80,8 @@ module _ (n : ℕ) (ty : ℕ → ℕ) (l a r s : ℕ) (hl : 0 < l) (hs : s < l) 
             q,
             e,
             h g,
-            tally-lt n (insideB ty (val reach) r w) (nearW ty t l r s w) i m
-                (λ b. let d = both-true (eqb (ty i) r) (leb (val reach i) w) b in let v : val reach i ≤ w = leb-true (val reach i) w (d .1) in omega arith) (both-show _ _ (eq-eqb _ _ y) (lt-ltb _ _ x)) (inside-near w t f),
+            tally-lt n (insideB ty (vec reach) r w) (nearW ty t l r s w) i m
+                (λ b. let d = both-true (eqb (ty i) r) (leb (vec reach i) w) b in let v : vec reach i ≤ w = leb-true (vec reach i) w (d .1) in omega arith) (both-show _ _ (eq-eqb _ _ y) (lt-ltb _ _ x)) (inside-near w t f),
           ))
 
   pub caps-done : {w cap : ℕ} {bar : List ℕ} → Caps n ty l a r s used reach w cap bar → Barred n ty l a r s used reach false bar
@@ -93,5 +94,5 @@ more-small w false m h k = omega (arith, m .no refl)
 pub more-at : {cap a r b b′ : ℕ} (used : List Bool) → b ≡ b′ → More cap a (has used b) r → More cap a (has used b′) r
 more-at {cap} {a} {r} used e m = subst (λ (x : ℕ). More cap a (has used x) r) e m
 
-pub raised-all : {n : ℕ} {full : Bool} {bar : List ℕ} (ty : ℕ → ℕ) {reach : List ℕ} {r w : ℕ} {out : List ℕ} → ((i : ℕ) → i < n → RaiseOne full (eqb (ty i) r) (val bar i) (val reach i) w (val out i)) → Raised n full bar ty reach r w out
+pub raised-all : {n : ℕ} {full : Bool} {bar : List ℕ} (ty : ℕ → ℕ) {reach : List ℕ} {r w : ℕ} {out : List ℕ} → ((i : ℕ) → i < n → RaiseOne full (eqb (ty i) r) (vec bar i) (vec reach i) w (vec out i)) → Raised n full bar ty reach r w out
 raised-all ty h = record { each = λ i l. ⊎-elim (λ e. inl e) (λ x. inr (x .0, eqb-true _ _ (x .1), x .2, x .3)) (h i l .which) }

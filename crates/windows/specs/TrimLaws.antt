@@ -8,8 +8,9 @@ use native.Mathlib.Nat.{mod-lt}
 use lib.Dec.{eqb}
 use lib.ListN.{replicate, getD-replicate}
 use borrow.Author.Tests.{eqb-true}
+use Rattle.laws.specs.Entry.{vec}
 use Rattle.laws.specs.Z.{true-false}
-use Rattle.domain.specs.Domain.{has, rowOf, val, In, Keeps}
+use Rattle.domain.specs.Domain.{has, rowOf, In, Keeps}
 use Rattle.domain.specs.Split.{within-trans}
 use Rattle.task.specs.declared.Task.{Task}
 use Rattle.task.specs.Plan.{PlanOf, TaskOk, typeOf, instancesOf}
@@ -21,7 +22,7 @@ past-at {b} {r} {far} {far′} {bar} e k = record { yes = k .yes; back = λ y h.
 pub trimmed-when : {same cut : Bool} {bar s l : ℕ} {row r : List Bool} → Cuts same cut → Trimmed cut bar s l row r → Trimmed same bar s l row r
 trimmed-when k z = record { was = z .was; stays = λ t h y f. z .stays t h y (λ e. f (k .only e)) }
 
-pub drained-all : {n r s l : ℕ} (ty : ℕ → ℕ) {bar : List ℕ} {d out : List (List Bool)} → ((i : ℕ) → i < n → Trimmed (eqb (ty i) r) (val bar i) s l (rowOf d i) (rowOf out i)) → Drained n ty r s l bar d out
+pub drained-all : {n r s l : ℕ} (ty : ℕ → ℕ) {bar : List ℕ} {d out : List (List Bool)} → ((i : ℕ) → i < n → Trimmed (eqb (ty i) r) (vec bar i) s l (rowOf d i) (rowOf out i)) → Drained n ty r s l bar d out
 drained-all {n} {r} {s} {l} ty {bar} {d} {out} h = record {
   within = record { row = λ i q. h i q .was };
   stays = λ t a b. record { small = a .small; allowed = λ i q. h i q .stays (t i) (a .small i q) (a .allowed i q) (λ e. b i q (eqb-true _ _ e)) };

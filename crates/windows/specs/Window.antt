@@ -6,8 +6,9 @@ use mathlib.Core.Logic.{_⊎_}
 use mathlib.Core.List.{List}
 use Prim.Native.Nat.{ℕ, _+_, _-_, _%_, _≤_, _<_}
 use lib.Dec.{eqb, ltb, leb}
+use Rattle.laws.specs.Entry.{vec}
 use Rattle.laws.specs.Count.{bit, tally}
-use Rattle.domain.specs.Domain.{has, rowOf, val, In, Part, Within}
+use Rattle.domain.specs.Domain.{has, rowOf, In, Part, Within}
 use Rattle.task.specs.Plan.{held}
 
 -- how far slot b is after slot s, of l slots
@@ -62,7 +63,7 @@ pub record FarRow (l : ℕ) (row : List Bool) (r : ℕ) : Type 0 where
 
 -- each slot of operation i is less than its reach after slot s
 pub record Reach (n l s : ℕ) (z : List (List Bool)) (reach : List ℕ) : Type 0 where
-  pub each : (i : ℕ) → i < n → (b : ℕ) → b < l → has (rowOf z i) b ≡ true → off l s b < val reach i
+  pub each : (i : ℕ) → i < n → (b : ℕ) → b < l → has (rowOf z i) b ≡ true → off l s b < vec reach i
 
 -- the reach r from the next slot on: l where the slot left behind is one of the operation's (b), else at least the old reach less 1
 pub record StepOne (b : Bool) (l old r : ℕ) : Type 0 where
@@ -76,11 +77,11 @@ pub record Room (n : ℕ) (ty : ℕ → ℕ) (l a r : ℕ) (t : ℕ → ℕ) : T
 -- what is known of the starts t: each operation of type r has its slot among the used ones, and nearer than its reach
 pub record Fits (n : ℕ) (ty : ℕ → ℕ) (l r s : ℕ) (used : List Bool) (reach : List ℕ) (t : ℕ → ℕ) : Type 0 where
   pub uses : (i : ℕ) → i < n → ty i ≡ r → has used (t i % l) ≡ true
-  pub reaches : (i : ℕ) → i < n → ty i ≡ r → off l s (t i % l) < val reach i
+  pub reaches : (i : ℕ) → i < n → ty i ≡ r → off l s (t i % l) < vec reach i
 
 -- what a search for full windows from slot s answers: no plan, or how far from s each operation of type r is at least
 pub record Barred (n : ℕ) (ty : ℕ → ℕ) (l a r s : ℕ) (used : List Bool) (reach : List ℕ) (fail : Bool) (bar : List ℕ) : Type 0 where
-  pub safe : (t : ℕ → ℕ) → Room n ty l a r t → Fits n ty l r s used reach t → (fail ≡ false) × ((i : ℕ) → i < n → ty i ≡ r → val bar i ≤ off l s (t i % l))
+  pub safe : (t : ℕ → ℕ) → Room n ty l a r t → Fits n ty l r s used reach t → (fail ≡ false) × ((i : ℕ) → i < n → ty i ≡ r → vec bar i ≤ off l s (t i % l))
 
 -- a window that takes cap operations takes r with one slot more: a more where the type uses that slot
 pub record More (cap a : ℕ) (used : Bool) (r : ℕ) : Type 0 where
@@ -89,7 +90,7 @@ pub record More (cap a : ℕ) (used : Bool) (r : ℕ) : Type 0 where
 
 -- the bars after a window of w slots that is full, or not
 pub record Raised (n : ℕ) (full : Bool) (bar : List ℕ) (ty : ℕ → ℕ) (reach : List ℕ) (r w : ℕ) (out : List ℕ) : Type 0 where
-  pub each : (i : ℕ) → i < n → (val out i ≡ val bar i) ⊎ ((full ≡ true) × (ty i ≡ r) × (w < val reach i) × (val out i ≡ w))
+  pub each : (i : ℕ) → i < n → (vec out i ≡ vec bar i) ⊎ ((full ≡ true) × (ty i ≡ r) × (w < vec reach i) × (vec out i ≡ w))
 
 -- the same for one operation, which is of the type where `same` is true
 pub record RaiseOne (full same : Bool) (bar reach w r : ℕ) : Type 0 where
@@ -112,4 +113,4 @@ pub record Trimmed (same : Bool) (bar s l : ℕ) (row r : List Bool) : Type 0 wh
 -- `out` allows no start anew, and loses no starts of d in which the slot of each operation of type r is at least its bar after s
 pub record Drained (n : ℕ) (ty : ℕ → ℕ) (r s l : ℕ) (bar : List ℕ) (d out : List (List Bool)) : Type 0 where
   pub within : Within n out d
-  pub stays : (t : ℕ → ℕ) → In n d t → ((i : ℕ) → i < n → ty i ≡ r → val bar i ≤ off l s (t i % l)) → In n out t
+  pub stays : (t : ℕ → ℕ) → In n d t → ((i : ℕ) → i < n → ty i ≡ r → vec bar i ≤ off l s (t i % l)) → In n out t

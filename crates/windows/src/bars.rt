@@ -2,8 +2,8 @@
 ghost use mathlib.Core.Path.{_≡_};
 ghost use mathlib.Core.Bool.{true, false};
 ghost use Prim.Native.Nat.{ℕ, _+_, _≤_, _<_};
+ghost use Rattle.laws.specs.Entry.{vec};
 ghost use Rattle.laws.specs.Count.{tally};
-ghost use Rattle.domain.specs.Domain.{val};
 ghost use Rattle.windows.specs.Window.{insideB, insideBit, Barred, More, Raised, RaiseOne};
 use crate::slots::slot_at;
 
@@ -28,7 +28,7 @@ fn inside_bit(resource: usize, reach: usize, r: usize, w: usize) -> usize
 // How many operations of type r reach at most w.
 pub fn inside(resource: [usize; 24], reach: [usize; 24], n: usize, r: usize, w: usize) -> usize
     requires { ⌜ n ≤ 24 ⌝ }
-    ensures { λ c. ⌜ c ≡ tally n (insideB (val resource) (val reach) r w) ⌝ }
+    ensures { λ c. ⌜ c ≡ tally n (insideB (vec resource) (vec reach) r w) ⌝ }
 {
     let mut c: usize = 0;
     let mut i: usize = 0;
@@ -88,7 +88,7 @@ fn raised(
     w: usize,
 ) -> [usize; 24]
     requires { ⌜ n ≤ 24 ⌝ }
-    ensures { λ out. ⌜ Raised n full bar (val resource) reach r w out ⌝ }
+    ensures { λ out. ⌜ Raised n full bar (vec resource) reach r w out ⌝ }
 {
     let mut out = bar;
     let mut i: usize = 0;
@@ -131,7 +131,7 @@ pub fn bars(
     s: usize,
 ) -> Barrier
     requires { ⌜ (n ≤ 24) × (l ≤ 64) × (s < l) × (a ≤ 8) ⌝ }
-    ensures { λ b. ⌜ Barred n (val resource) l a r s used reach (b .fail) (b .bar) ⌝ }
+    ensures { λ b. ⌜ Barred n (vec resource) l a r s used reach (b .fail) (b .bar) ⌝ }
 {
     let counts = reach_counts(resource, reach, n, r);
     let mut bar = [0usize; 24];

@@ -2,7 +2,7 @@
 ghost use mathlib.Core.Path.{_≡_};
 ghost use mathlib.Core.Bool.{true, false};
 ghost use Prim.Native.Nat.{ℕ, _+_, _≤_, _<_};
-ghost use Rattle.domain.specs.Domain.{val};
+ghost use Rattle.laws.specs.Entry.{vec};
 ghost use Rattle.windows.specs.Window.{off, slotAt, SlotRow, SlotIf, Slotted, Either, Merged, UsedBy, FarRow, Reach, StepOne};
 
 // How far slot b is after slot s.
@@ -70,7 +70,7 @@ pub fn slot_rows(
     r: usize,
 ) -> [[bool; 64]; 24]
     requires { ⌜ (n ≤ 24) × (0 < l) × (l ≤ 64) ⌝ }
-    ensures { λ z. ⌜ Slotted n l (val resource) r ok z ⌝ }
+    ensures { λ z. ⌜ Slotted n l (vec resource) r ok z ⌝ }
 {
     let mut z = [[false; 64]; 24];
     let mut i: usize = 0;
@@ -99,7 +99,7 @@ fn merged(same: bool, u: [bool; 64], row: [bool; 64]) -> [bool; 64]
 // The slots that operations of type r may still use.
 pub fn used_slots(z: [[bool; 64]; 24], resource: [usize; 24], n: usize, r: usize) -> [bool; 64]
     requires { ⌜ n ≤ 24 ⌝ }
-    ensures { λ u. ⌜ UsedBy n (val resource) r z u ⌝ }
+    ensures { λ u. ⌜ UsedBy n (vec resource) r z u ⌝ }
 {
     let mut u = [false; 64];
     let mut i: usize = 0;

@@ -2,7 +2,7 @@
 ghost use mathlib.Core.Path.{_≡_};
 ghost use mathlib.Core.Bool.{true, false};
 ghost use Prim.Native.Nat.{ℕ, _+_, _≤_, _<_};
-ghost use Rattle.domain.specs.Domain.{val};
+ghost use Rattle.laws.specs.Entry.{vec};
 ghost use Rattle.windows.specs.Window.{Cuts, Past, Trimmed, Drained};
 use crate::slots::offset;
 use crate::slots::slot_at;
@@ -67,7 +67,7 @@ pub fn drained(
     l: usize,
 ) -> [[bool; 128]; 24]
     requires { ⌜ (n ≤ 24) × (s < l) × (l ≤ 64) ⌝ }
-    ensures { λ out. ⌜ Drained n (val resource) r s l bar d out ⌝ }
+    ensures { λ out. ⌜ Drained n (vec resource) r s l bar d out ⌝ }
 {
     let mut out = d;
     let mut i: usize = 0;

@@ -5,14 +5,14 @@ use Prim.Native.Nat.{ℕ, _≤_, _<_, _-_}
 use native.Mathlib.Omega.{arith}
 use borrow.Author.Needs.{needs}
 use borrow.Author.Count.{below-more}
+use Rattle.laws.specs.Entry.{vec}
 use Rattle.laws.specs.Z.{true-false}
-use Rattle.domain.specs.Domain.{val}
 use Rattle.instances.specs.Seats.{Meet}
 use Rattle.instances.proofs.held_by.Statement.{statement}
 use Rattle.instances.proofs.held_by.Tie as tie
 
 abbrev Inv-loop : tie.InvT-loop
-Inv-loop l k v resource x u i₀ i = (i ≤ k) × ((j : ℕ) → j < i → Meet (val resource) (val x) l j k → val u j ≡ v → ⊥)
+Inv-loop l k v resource x u i₀ i = (i ≤ k) × ((j : ℕ) → j < i → Meet (vec resource) (vec x) l j k → vec u j ≡ v → ⊥)
 
 abbrev μ-loop : tie.MeasureT-loop
 μ-loop l k v resource x u i₀ i = k - i

@@ -5,7 +5,7 @@ use Prim.Native.Nat.{ℕ, _≤_, _<_, _-_}
 use native.Mathlib.Omega.{arith}
 use lib.ListN.{length, length-set}
 use borrow.Author.Needs.{needs}
-use Rattle.domain.specs.Domain.{val}
+use Rattle.laws.specs.Entry.{vec}
 use Rattle.task.specs.Plan.{typeOf, instancesOf}
 use Rattle.instances.specs.Seats.{Free}
 use Rattle.instances.specs.SeatLaws.{seat-more}
@@ -13,7 +13,7 @@ use Rattle.instances.proofs.instances.Statement.{statement}
 use Rattle.instances.proofs.instances.Tie as tie
 
 abbrev Inv-loop : tie.InvT-loop
-Inv-loop x p n l resource u₀ k₀ u k = (k ≤ n) × (length u ≡ 24) × ((j : ℕ) → j < k → Free (val resource) (val x) (val u) l j (instancesOf p (val resource j)) (val u j))
+Inv-loop x p n l resource u₀ k₀ u k = (k ≤ n) × (length u ≡ 24) × ((j : ℕ) → j < k → Free (vec resource) (vec x) (vec u) l j (instancesOf p (vec resource j)) (vec u j))
 
 abbrev μ-loop : tie.MeasureT-loop
 μ-loop x p n l resource u₀ k₀ u k = n - k
@@ -50,7 +50,7 @@ loop-less c = search needs
 
 loop-again : tie.Need-loop-again Inv-loop μ-loop
 loop-again c = let s = c .before .before .before .before .before in let l = c .before .before .before .loop in
-    (omega (arith, c .before .before .loop-test .taken), simp length-set (l .inv .1), seat-more (typeOf (s .args .t1)) (val (s .args .x)) (λ j. instancesOf (s .args .t1) (typeOf (s .args .t1) j)) (s .args .t1 .interval) (l .u) (l .k) _ (omega (arith, l .inv .1, c .before .before .loop-test .taken, s .pre .ops-ok)) (l .inv .2) (c .lowest-free .ensures))
+    (omega (arith, c .before .before .loop-test .taken), simp length-set (l .inv .1), seat-more (typeOf (s .args .t1)) (vec (s .args .x)) (λ j. instancesOf (s .args .t1) (typeOf (s .args .t1) j)) (s .args .t1 .interval) (l .u) (l .k) _ (omega (arith, l .inv .1, c .before .before .loop-test .taken, s .pre .ops-ok)) (l .inv .2) (c .lowest-free .ensures))
 
 returns : tie.Need-returns Inv-loop μ-loop
 returns c = record { seat = λ k h. c .before .loop .inv .2 k (omega (arith, c .loop-test .left)) }

@@ -5,13 +5,13 @@ use Prim.Native.Nat.{ℕ, _≤_, _<_, _-_}
 use native.Mathlib.Omega.{arith}
 use borrow.Author.Needs.{needs}
 use borrow.Author.Count.{below-more}
-use Rattle.domain.specs.Domain.{val}
+use Rattle.laws.specs.Entry.{vec}
 use Rattle.instances.specs.Seats.{Meet}
 use Rattle.instances.proofs.lowest_free.Statement.{statement}
 use Rattle.instances.proofs.lowest_free.Tie as tie
 
 abbrev Inv-loop : tie.InvT-loop
-Inv-loop resource x u l k a v₀ v = (v ≤ a) × ((w : ℕ) → w < v → (i : ℕ) × (i < k) × Meet (val resource) (val x) l i k × (val u i ≡ w))
+Inv-loop resource x u l k a v₀ v = (v ≤ a) × ((w : ℕ) → w < v → (i : ℕ) × (i < k) × Meet (vec resource) (vec x) l i k × (vec u i ≡ w))
 
 abbrev μ-loop : tie.MeasureT-loop
 μ-loop resource x u l k a v₀ v = a - v

@@ -4,7 +4,7 @@ use mathlib.Core.Path.{_≡_}
 use Prim.Native.Nat.{_<_}
 use lib.ListN.{length}
 use borrow.Author.Needs.{needs}
-use Rattle.domain.specs.Domain.{val}
+use Rattle.laws.specs.Entry.{vec}
 use Rattle.domain.specs.First.{Good, lower-found, lower-less, lower-done, lower-least}
 use Rattle.task.specs.Plan.{PlanOf}
 use Rattle.search.proofs.lowered.Statement.{statement}
@@ -14,7 +14,7 @@ abbrev Inv-loop : tie.InvT-loop
 Inv-loop p i d low one best₀ best = (length best ≡ 24) × Good (PlanOf p) (p .ops) d best
 
 abbrev μ-loop : tie.MeasureT-loop
-μ-loop p i d low one best₀ best = val best i
+μ-loop p i d low one best₀ best = vec best i
 
 mul-least : tie.Need-mul-least Inv-loop μ-loop
 mul-least c = search needs

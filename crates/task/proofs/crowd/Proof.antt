@@ -4,14 +4,14 @@ use mathlib.Core.Path.{ap₂, _≡_, sym, ap, _∙_}
 use Prim.Native.Nat.{ℕ, _+_, _≤_, _-_}
 use native.Mathlib.Omega.{arith}
 use borrow.Author.Needs.{needs}
+use Rattle.laws.specs.Entry.{vec}
 use Rattle.laws.specs.Count.{tally, tally-none, tally-more}
-use Rattle.domain.specs.Domain.{val}
 use Rattle.task.specs.Plan.{held}
 use Rattle.task.proofs.crowd.Statement.{statement}
 use Rattle.task.proofs.crowd.Tie as tie
 
 abbrev Inv-loop : tie.InvT-loop
-Inv-loop n l r s resource x c₀ i₀ c i = (i ≤ n) × (c ≤ i) × (c ≡ tally i (held (val resource) (val x) l r s))
+Inv-loop n l r s resource x c₀ i₀ c i = (i ≤ n) × (c ≤ i) × (c ≡ tally i (held (vec resource) (vec x) l r s))
 
 abbrev μ-loop : tie.MeasureT-loop
 μ-loop n l r s resource x c₀ i₀ c i = n - i
@@ -50,7 +50,7 @@ loop-again c = let l = c .before .before .loop in
 returns : tie.Need-returns Inv-loop μ-loop
 returns c = let a = c .before .before .args in
     let e : c .before .loop .i ≡ a .n = omega arith in
-    c .before .loop .inv .2 ∙ ap (λ (k : ℕ). tally k (held (val (a .t1)) (val (a .t2)) (a .l) (a .r) (a .s))) e
+    c .before .loop .inv .2 ∙ ap (λ (k : ℕ). tally k (held (vec (a .t1)) (vec (a .t2)) (a .l) (a .r) (a .s))) e
 
 pub crowd-spec : {M : Type 1} → statement M
 crowd-spec =

@@ -6,15 +6,15 @@ use native.Mathlib.Omega.{arith}
 use lib.ListN.{getD}
 use borrow.Author.Needs.{needs}
 use borrow.Author.Count.{below-more}
+use Rattle.laws.specs.Entry.{vec}
 use Rattle.laws.specs.Z.{true-false}
 use Rattle.laws.specs.Count.{tally}
-use Rattle.domain.specs.Domain.{val}
 use Rattle.task.specs.Plan.{held, instancesOf}
 use Rattle.task.proofs.room_kept.Statement.{statement}
 use Rattle.task.proofs.room_kept.Tie as tie
 
 abbrev Inv-loop : tie.InvT-loop
-Inv-loop p x n l resource i₀ i = (i ≤ n) × ((k : ℕ) → k < i → 0 < instancesOf p (getD resource k 0) → tally n (held (val resource) (val x) l (getD resource k 0) (val x k % l)) ≤ instancesOf p (getD resource k 0))
+Inv-loop p x n l resource i₀ i = (i ≤ n) × ((k : ℕ) → k < i → 0 < instancesOf p (getD resource k 0) → tally n (held (vec resource) (vec x) l (getD resource k 0) (vec x k % l)) ≤ instancesOf p (getD resource k 0))
 
 abbrev μ-loop : tie.MeasureT-loop
 μ-loop p x n l resource i₀ i = n - i
@@ -52,7 +52,7 @@ over-requires c κs = search needs
 returns : tie.Need-returns Inv-loop μ-loop
 returns c = let s = c .before .before .before .before .before .before .before in
     let y = c .before .over .ensures .yes (c .if1 .taken) in
-    record { yes = λ e. true-false (sym e); no = λ _ h. let z = h .room _ (val (s .args .t2) (c .before .before .before .before .before .loop .i) % s .args .t1 .interval) (y .0) in omega (arith, c .before .before .before .crowd .ensures) }
+    record { yes = λ e. true-false (sym e); no = λ _ h. let z = h .room _ (vec (s .args .t2) (c .before .before .before .before .before .loop .i) % s .args .t1 .interval) (y .0) in omega (arith, c .before .before .before .crowd .ensures) }
 
 add-i : tie.Need-add-i Inv-loop μ-loop
 add-i c = search needs

@@ -4,14 +4,14 @@ use mathlib.Core.Path.{ap₂, _≡_, sym, ap, _∙_}
 use Prim.Native.Nat.{ℕ, _+_, _≤_, _-_}
 use native.Mathlib.Omega.{arith}
 use borrow.Author.Needs.{needs}
+use Rattle.laws.specs.Entry.{vec}
 use Rattle.laws.specs.Count.{tally, tally-none, tally-more}
-use Rattle.domain.specs.Domain.{val}
 use Rattle.windows.specs.Window.{insideB}
 use Rattle.windows.proofs.bars.inside.Statement.{statement}
 use Rattle.windows.proofs.bars.inside.Tie as tie
 
 abbrev Inv-loop : tie.InvT-loop
-Inv-loop n r w resource reach c₀ i₀ c i = (i ≤ n) × (c ≤ i) × (c ≡ tally i (insideB (val resource) (val reach) r w))
+Inv-loop n r w resource reach c₀ i₀ c i = (i ≤ n) × (c ≤ i) × (c ≡ tally i (insideB (vec resource) (vec reach) r w))
 
 abbrev μ-loop : tie.MeasureT-loop
 μ-loop n r w resource reach c₀ i₀ c i = n - i
@@ -48,7 +48,7 @@ loop-again c = let l = c .before .before .loop in (omega arith, omega arith, ap�
 
 returns : tie.Need-returns Inv-loop μ-loop
 returns c = let a = c .before .before .args in let e : c .before .loop .i ≡ a .n = omega arith in
-    c .before .loop .inv .2 ∙ ap (λ (k : ℕ). tally k (insideB (val (a .t1)) (val (a .t2)) (a .r) (a .w))) e
+    c .before .loop .inv .2 ∙ ap (λ (k : ℕ). tally k (insideB (vec (a .t1)) (vec (a .t2)) (a .r) (a .w))) e
 
 pub inside-spec : {M : Type 1} → statement M
 inside-spec =

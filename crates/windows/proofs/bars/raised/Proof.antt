@@ -6,15 +6,15 @@ use native.Mathlib.Omega.{arith}
 use lib.ListN.{length, length-set}
 use lib.Dec.{eqb}
 use borrow.Author.Needs.{needs}
+use Rattle.laws.specs.Entry.{vec}
 use Rattle.laws.specs.Store.{store-more}
-use Rattle.domain.specs.Domain.{val}
 use Rattle.windows.specs.Window.{RaiseOne}
 use Rattle.windows.specs.BarLaws.{raised-all}
 use Rattle.windows.proofs.bars.raised.Statement.{statement}
 use Rattle.windows.proofs.bars.raised.Tie as tie
 
 abbrev Inv-loop : tie.InvT-loop
-Inv-loop full n r w bar resource reach out₀ i₀ out i = (i ≤ n) × (length out ≡ 24) × ((k : ℕ) → k < i → RaiseOne full (eqb (val resource k) r) (val bar k) (val reach k) w (val out k))
+Inv-loop full n r w bar resource reach out₀ i₀ out i = (i ≤ n) × (length out ≡ 24) × ((k : ℕ) → k < i → RaiseOne full (eqb (vec resource k) r) (vec bar k) (vec reach k) w (vec out k))
 
 abbrev μ-loop : tie.MeasureT-loop
 μ-loop full n r w bar resource reach out₀ i₀ out i = n - i
@@ -57,10 +57,10 @@ loop-less c = search needs
 
 loop-again : tie.Need-loop-again Inv-loop μ-loop
 loop-again c = let l = c .before .before .loop in let a = c .before .before .before .args in
-    (omega arith, simp length-set (l .inv .1), store-more (λ k z. RaiseOne (a .full) (eqb (val (a .t3) k) (a .r)) (val (a .t2) k) (val (a .t4) k) (a .w) z) (l .out) (l .i) _ 0 (omega (arith, l .inv .1, c .before .before .before .pre)) (c .raise .ensures) (l .inv .2))
+    (omega arith, simp length-set (l .inv .1), store-more (λ k z. RaiseOne (a .full) (eqb (vec (a .t3) k) (a .r)) (vec (a .t2) k) (vec (a .t4) k) (a .w) z) (l .out) (l .i) _ 0 (omega (arith, l .inv .1, c .before .before .before .pre)) (c .raise .ensures) (l .inv .2))
 
 returns : tie.Need-returns Inv-loop μ-loop
-returns c = raised-all (val (c .before .before .args .t3)) (λ i h. c .before .loop .inv .2 i (omega arith))
+returns c = raised-all (vec (c .before .before .args .t3)) (λ i h. c .before .loop .inv .2 i (omega arith))
 
 pub raised-spec : {M : Type 1} → statement M
 raised-spec =

@@ -5,15 +5,16 @@ use Prim.Native.Nat.{ℕ, _≤_, _<_, _-_}
 use native.Mathlib.Omega.{arith}
 use lib.ListN.{length, length-set}
 use borrow.Author.Needs.{needs}
+use Rattle.laws.specs.Entry.{vec}
 use Rattle.laws.specs.Store.{store-more}
-use Rattle.domain.specs.Domain.{rowOf, val}
+use Rattle.domain.specs.Domain.{rowOf}
 use Rattle.windows.specs.Window.{FarRow}
 use Rattle.windows.specs.SlotLaws.{off-zero}
 use Rattle.windows.proofs.slots.reach_zero.Statement.{statement}
 use Rattle.windows.proofs.slots.reach_zero.Tie as tie
 
 abbrev Inv-loop : tie.InvT-loop
-Inv-loop n l z reach₀ i₀ reach i = (i ≤ n) × (length reach ≡ 24) × ((k : ℕ) → k < i → FarRow l (rowOf z k) (val reach k))
+Inv-loop n l z reach₀ i₀ reach i = (i ≤ n) × (length reach ≡ 24) × ((k : ℕ) → k < i → FarRow l (rowOf z k) (vec reach k))
 
 abbrev μ-loop : tie.MeasureT-loop
 μ-loop n l z reach₀ i₀ reach i = n - i

@@ -8,14 +8,15 @@ use lib.ListN.{length, length-set}
 use lib.Dec.{eqb}
 use borrow.Author.Needs.{needs}
 use borrow.Author.Tests.{eq-eqb}
+use Rattle.laws.specs.Entry.{vec}
 use Rattle.laws.specs.Store.{store-more}
-use Rattle.domain.specs.Domain.{rowOf, val}
+use Rattle.domain.specs.Domain.{rowOf}
 use Rattle.windows.specs.Window.{SlotIf}
 use Rattle.windows.proofs.slots.slot_rows.Statement.{statement}
 use Rattle.windows.proofs.slots.slot_rows.Tie as tie
 
 abbrev Inv-loop : tie.InvT-loop
-Inv-loop n l r ok resource z₀ i₀ z i = (i ≤ n) × (length z ≡ 24) × ((k : ℕ) → k < i → SlotIf (eqb (val resource k) r) l (rowOf ok k) (rowOf z k))
+Inv-loop n l r ok resource z₀ i₀ z i = (i ≤ n) × (length z ≡ 24) × ((k : ℕ) → k < i → SlotIf (eqb (vec resource k) r) l (rowOf ok k) (rowOf z k))
 
 abbrev μ-loop : tie.MeasureT-loop
 μ-loop n l r ok resource z₀ i₀ z i = n - i
@@ -52,7 +53,7 @@ loop-less c = search needs
 
 loop-again : tie.Need-loop-again Inv-loop μ-loop
 loop-again c = let l = c .before .before .before .loop in let s = c .before .before .before .before in
-    (omega arith, simp length-set (l .inv .1), store-more (λ k z. SlotIf (eqb (val (s .args .t2) k) (s .args .r)) (s .args .l) (rowOf (s .args .t1) k) z) (l .z) (l .i) _ [] (omega (arith, l .inv .1, s .pre)) (c .slot-row-if .ensures) (l .inv .2))
+    (omega arith, simp length-set (l .inv .1), store-more (λ k z. SlotIf (eqb (vec (s .args .t2) k) (s .args .r)) (s .args .l) (rowOf (s .args .t1) k) z) (l .z) (l .i) _ [] (omega (arith, l .inv .1, s .pre)) (c .slot-row-if .ensures) (l .inv .2))
 
 returns : tie.Need-returns Inv-loop μ-loop
 returns c = record { each = λ i h e. c .before .loop .inv .2 i (omega arith) .when (eq-eqb _ _ e) }

@@ -5,15 +5,16 @@ use Prim.Native.Nat.{ℕ, _≤_, _<_, _-_}
 use native.Mathlib.Omega.{arith}
 use lib.ListN.{length, length-set}
 use borrow.Author.Needs.{needs}
+use Rattle.laws.specs.Entry.{vec}
 use Rattle.laws.specs.Store.{store-more}
-use Rattle.domain.specs.Domain.{has, rowOf, val}
+use Rattle.domain.specs.Domain.{has, rowOf}
 use Rattle.windows.specs.Window.{StepOne}
 use Rattle.windows.specs.SlotLaws.{reach-step}
 use Rattle.windows.proofs.slots.stepped.Statement.{statement}
 use Rattle.windows.proofs.slots.stepped.Tie as tie
 
 abbrev Inv-loop : tie.InvT-loop
-Inv-loop s n l reach z out₀ i₀ out i = (i ≤ n) × (length out ≡ 24) × ((k : ℕ) → k < i → StepOne (has (rowOf z k) s) l (val reach k) (val out k))
+Inv-loop s n l reach z out₀ i₀ out i = (i ≤ n) × (length out ≡ 24) × ((k : ℕ) → k < i → StepOne (has (rowOf z k) s) l (vec reach k) (vec out k))
 
 abbrev μ-loop : tie.MeasureT-loop
 μ-loop s n l reach z out₀ i₀ out i = n - i
@@ -53,11 +54,11 @@ loop-less c = search needs
 
 loop-again : tie.Need-loop-again Inv-loop μ-loop
 loop-again c = let l = c .before .before .before .loop in let a = c .before .before .before .before .args in
-    (omega arith, simp length-set (l .inv .1), store-more (λ k z. StepOne (has (rowOf (a .t2) k) (a .s)) (a .l) (val (a .t1) k) z) (l .out) (l .i) _ 0 (omega (arith, l .inv .1, c .before .before .before .before .pre)) (c .step-one .ensures) (l .inv .2))
+    (omega arith, simp length-set (l .inv .1), store-more (λ k z. StepOne (has (rowOf (a .t2) k) (a .s)) (a .l) (vec (a .t1) k) z) (l .out) (l .i) _ 0 (omega (arith, l .inv .1, c .before .before .before .before .pre)) (c .step-one .ensures) (l .inv .2))
 
 returns : tie.Need-returns Inv-loop μ-loop
 returns c = let s = c .before .before in let l = c .before .loop in
-    λ h. record { each = λ i m. reach-step (s .args .l) (s .args .s) (rowOf (s .args .t2) i) (val (s .args .t1) i) (val (l .out) i) h (s .pre .3 .each i m) (l .inv .2 i (omega arith)) }
+    λ h. record { each = λ i m. reach-step (s .args .l) (s .args .s) (rowOf (s .args .t2) i) (vec (s .args .t1) i) (vec (l .out) i) h (s .pre .3 .each i m) (l .inv .2 i (omega arith)) }
 
 pub stepped-spec : {M : Type 1} → statement M
 stepped-spec =

@@ -5,13 +5,14 @@ use mathlib.Core.Bool.{true}
 use Prim.Native.Nat.{ℕ, _≤_, _<_, _-_}
 use native.Mathlib.Omega.{arith}
 use borrow.Author.Needs.{needs}
-use Rattle.domain.specs.Domain.{has, rowOf, val}
+use Rattle.laws.specs.Entry.{vec}
+use Rattle.domain.specs.Domain.{has, rowOf}
 use Rattle.windows.specs.SlotLaws.{used-more}
 use Rattle.windows.proofs.slots.used_slots.Statement.{statement}
 use Rattle.windows.proofs.slots.used_slots.Tie as tie
 
 abbrev Inv-loop : tie.InvT-loop
-Inv-loop n r z resource u₀ i₀ u i = (i ≤ n) × ((k : ℕ) → k < i → val resource k ≡ r → (b : ℕ) → b < 64 → has (rowOf z k) b ≡ true → has u b ≡ true)
+Inv-loop n r z resource u₀ i₀ u i = (i ≤ n) × ((k : ℕ) → k < i → vec resource k ≡ r → (b : ℕ) → b < 64 → has (rowOf z k) b ≡ true → has u b ≡ true)
 
 abbrev μ-loop : tie.MeasureT-loop
 μ-loop n r z resource u₀ i₀ u i = n - i
@@ -42,7 +43,7 @@ loop-less c = search needs
 
 loop-again : tie.Need-loop-again Inv-loop μ-loop
 loop-again c = let l = c .before .before .before .loop in let a = c .before .before .before .before .args in
-    (omega arith, used-more (a .n) (val (a .t2)) (a .r) (a .t1) (l .u) (c .merged .result) (l .i) (l .inv .1) (c .merged .ensures))
+    (omega arith, used-more (a .n) (vec (a .t2)) (a .r) (a .t1) (l .u) (c .merged .result) (l .i) (l .inv .1) (c .merged .ensures))
 
 returns : tie.Need-returns Inv-loop μ-loop
 returns c = record { all = λ i h. c .before .loop .inv .1 i (omega arith) }

@@ -7,15 +7,16 @@ use native.Mathlib.Omega.{arith}
 use lib.ListN.{length, length-set}
 use lib.Dec.{eqb}
 use borrow.Author.Needs.{needs}
+use Rattle.laws.specs.Entry.{vec}
 use Rattle.laws.specs.Store.{store-more}
-use Rattle.domain.specs.Domain.{rowOf, val}
+use Rattle.domain.specs.Domain.{rowOf}
 use Rattle.windows.specs.Window.{Trimmed}
 use Rattle.windows.specs.TrimLaws.{drained-all, trimmed-when}
 use Rattle.windows.proofs.trims.drained.Statement.{statement}
 use Rattle.windows.proofs.trims.drained.Tie as tie
 
 abbrev Inv-loop : tie.InvT-loop
-Inv-loop n r s l d z resource bar out₀ i₀ out i = (i ≤ n) × (length out ≡ 24) × ((k : ℕ) → k < i → Trimmed (eqb (val resource k) r) (val bar k) s l (rowOf d k) (rowOf out k))
+Inv-loop n r s l d z resource bar out₀ i₀ out i = (i ≤ n) × (length out ≡ 24) × ((k : ℕ) → k < i → Trimmed (eqb (vec resource k) r) (vec bar k) s l (rowOf d k) (rowOf out k))
 
 abbrev μ-loop : tie.MeasureT-loop
 μ-loop n r s l d z resource bar out₀ i₀ out i = n - i
@@ -73,10 +74,10 @@ loop-less c = search needs
 
 loop-again : tie.Need-loop-again Inv-loop μ-loop
 loop-again c = let l = c .before .before .before .before .before .loop in let s = c .before .before .before .before .before .before in let a = s .args in
-    (omega arith, simp length-set (l .inv .1), store-more (λ k z. Trimmed (eqb (val (a .t3) k) (a .r)) (val (a .t4) k) (a .s) (a .l) (rowOf (a .t1) k) z) (l .out) (l .i) _ [] (omega (arith, l .inv .1, s .pre)) (trimmed-when (c .before .before .cuts .ensures) (c .trim .ensures)) (l .inv .2))
+    (omega arith, simp length-set (l .inv .1), store-more (λ k z. Trimmed (eqb (vec (a .t3) k) (a .r)) (vec (a .t4) k) (a .s) (a .l) (rowOf (a .t1) k) z) (l .out) (l .i) _ [] (omega (arith, l .inv .1, s .pre)) (trimmed-when (c .before .before .cuts .ensures) (c .trim .ensures)) (l .inv .2))
 
 returns : tie.Need-returns Inv-loop μ-loop
-returns c = drained-all (val (c .before .before .args .t3)) (λ i h. c .before .loop .inv .2 i (omega arith))
+returns c = drained-all (vec (c .before .before .args .t3)) (λ i h. c .before .loop .inv .2 i (omega arith))
 
 pub drained-spec : {M : Type 1} → statement M
 drained-spec =
