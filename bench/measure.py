@@ -42,6 +42,15 @@ def rows_of(program, texts, extra=()):
     return rows
 
 
+def least_rows(program, texts, runs):
+    """The same, with the least seconds of several runs."""
+    every = [rows_of(program, texts) for _ in range(runs)]
+    return [
+        [(interval, answer, min(one[k][2] for one in of_sheet)) for k, (interval, answer, _) in enumerate(of_sheet[0])]
+        for of_sheet in zip(*every)
+    ]
+
+
 def search_nodes(program, texts):
     """The calls of the search in each call of the product, in order; gdb counts them. Nothing where there is no gdb."""
     if not shutil.which("gdb"):

@@ -1,5 +1,7 @@
 """Runs general exact solvers on one interval question: sat, unsat or none (time limit), with seconds of processor time.
 
+The time is the least of several runs: the start-up of a process varies by more than an easy question takes.
+
 A solver is optional: one that is not installed is left out. Debian's packages: minizinc and flatzinc
 (gecode), cadical, clasp, z3, coinor-cbc.
 """
@@ -13,7 +15,9 @@ import tempfile
 import encodings_of_plans as encodings
 
 HERE = os.path.dirname(os.path.abspath(__file__))
-LIMIT = 20
+LIMIT = 10
+RUNS = 5
+QUICK = 0.3  # seconds; a question that takes longer is asked once
 
 
 class Solver:
@@ -31,15 +35,21 @@ class Solver:
         with tempfile.TemporaryDirectory() as folder:
             path = os.path.join(folder, "plan" + self.suffix)
             self.write(sheet, interval, path)
-            before = children_time()
-            try:
-                done = subprocess.run(
-                    self.command(path), stdout=subprocess.PIPE, stderr=subprocess.STDOUT, timeout=LIMIT
-                )
-            except subprocess.TimeoutExpired:
-                return "none", float(LIMIT)
-            took = children_time() - before
-            return self.reads(done.stdout.decode(errors="replace"), path), took
+            said, least = self.run(path)
+            for _ in range(RUNS - 1):
+                if least > QUICK:
+                    break
+                least = min(least, self.run(path)[1])
+            return said, least
+
+    def run(self, path):
+        before = children_time()
+        try:
+            done = subprocess.run(self.command(path), stdout=subprocess.PIPE, stderr=subprocess.STDOUT, timeout=LIMIT)
+        except subprocess.TimeoutExpired:
+            return "none", float(LIMIT)
+        took = children_time() - before
+        return self.reads(done.stdout.decode(errors="replace"), path), took
 
 
 def children_time():
