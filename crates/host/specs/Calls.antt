@@ -1,4 +1,4 @@
--- The C calls: the questions of reading a sheet, 1 to 3, and then the service on its numbers.
+-- The C calls: the questions of reading a sheet, 1 to 3, and then the service on its numbers; 5 without the edges.
 use Prim.Native.Nat.{ℕ}
 use mathlib.Core.Path.{_≡_, sym, ap, subst, _∙_}
 use mathlib.Core.List.{List}
@@ -9,24 +9,34 @@ use Rattle.reader.specs.declared.ReadAnswer.{ReadAnswer}
 use Rattle.reader.specs.Read.{readOf}
 use Rattle.plan.specs.declared.IntervalAnswer.{IntervalAnswer}
 use Rattle.plan.specs.Answers.{Least}
+use Rattle.report.specs.declared.PlanWritten.{PlanWritten}
 use Rattle.report.specs.PlanText.{PlanText}
 use Rattle.slot_order.specs.declared.SlotOrder.{SlotOrder}
 use Rattle.slot_order.specs.Answers.{SlotOrderAt}
+use Rattle.host.specs.declared.OrderAnswer.{OrderAnswer}
 
 -- least interval
 pub data LeastOf (bytes : List ℕ) : IntervalAnswer → Type 0 where
   unread : (readOf bytes .answer ≡ 0 → ⊥) → LeastOf bytes (record { answer = readOf bytes .answer; interval = 0 })
   served : readOf bytes .answer ≡ 0 → {r : IntervalAnswer} → Least (readOf bytes .sheet) r → LeastOf bytes r
 
+-- a plan writer's answer without the edges
+abbrev pub textAnswer : PlanWritten → Written
+textAnswer r = record { answer = r .answer; count = r .count }
+
+-- a slot order's answer without the edges
+abbrev pub orderAnswer : SlotOrder → OrderAnswer
+orderAnswer r = record { answer = r .answer; order = r .order }
+
 -- plan text into the lent buffer old: 5 and 6 write nothing
 pub data PlanTextOf (bytes : List ℕ) (L : ℕ) (old : List ℕ) : Written → List ℕ → Type 0 where
   unread-text : (readOf bytes .answer ≡ 0 → ⊥) → PlanTextOf bytes L old (line.refused (readOf bytes .answer)) old
-  served-text : readOf bytes .answer ≡ 0 → {r : Written} {new : List ℕ} → PlanText (readOf bytes .sheet) L old r new → PlanTextOf bytes L old r new
+  served-text : readOf bytes .answer ≡ 0 → {r : PlanWritten} {new : List ℕ} → PlanText (readOf bytes .sheet) L old r new → PlanTextOf bytes L old (textAnswer r) new
 
 -- slot order
-pub data SlotOrderOf (bytes : List ℕ) (L pair : ℕ) : SlotOrder → Type 0 where
+pub data SlotOrderOf (bytes : List ℕ) (L pair : ℕ) : OrderAnswer → Type 0 where
   unread-order : (readOf bytes .answer ≡ 0 → ⊥) → SlotOrderOf bytes L pair (record { answer = readOf bytes .answer; order = 0 })
-  served-order : readOf bytes .answer ≡ 0 → {r : SlotOrder} → SlotOrderAt (readOf bytes .sheet) L pair r → SlotOrderOf bytes L pair r
+  served-order : readOf bytes .answer ≡ 0 → {r : SlotOrder} → SlotOrderAt (readOf bytes .sheet) L pair r → SlotOrderOf bytes L pair (orderAnswer r)
 
 -- from what reading gave
 module _ (bytes : List ℕ) {q : ReadAnswer} (e : q ≡ readOf bytes) where
@@ -42,11 +52,11 @@ module _ (bytes : List ℕ) {q : ReadAnswer} (e : q ≡ readOf bytes) where
   pub text-unread : {L : ℕ} {old : List ℕ} → (q .answer ≡ 0 → ⊥) → PlanTextOf bytes L old (line.refused (q .answer)) old
   text-unread {L} {old} n = subst (λ (k : ℕ). PlanTextOf bytes L old (line.refused k) old) (sym same-answer) (unread-text (λ z. n (same-answer ∙ z)))
 
-  pub text-served : {L : ℕ} {old new : List ℕ} {r : Written} → q .answer ≡ 0 → PlanText (q .sheet) L old r new → PlanTextOf bytes L old r new
+  pub text-served : {L : ℕ} {old new : List ℕ} {r : PlanWritten} → q .answer ≡ 0 → PlanText (q .sheet) L old r new → PlanTextOf bytes L old (textAnswer r) new
   text-served {L} {old} {new} {r} z t = served-text (sym same-answer ∙ z) (subst (λ (s : Sheet). PlanText s L old r new) (ap (λ (x : ReadAnswer). x .sheet) e) t)
 
   pub order-unread : {L pair : ℕ} → (q .answer ≡ 0 → ⊥) → SlotOrderOf bytes L pair (record { answer = q .answer; order = 0 })
   order-unread {L} {pair} n = subst (λ (k : ℕ). SlotOrderOf bytes L pair (record { answer = k; order = 0 })) (sym same-answer) (unread-order (λ z. n (same-answer ∙ z)))
 
-  pub order-served : {L pair : ℕ} {r : SlotOrder} → q .answer ≡ 0 → SlotOrderAt (q .sheet) L pair r → SlotOrderOf bytes L pair r
+  pub order-served : {L pair : ℕ} {r : SlotOrder} → q .answer ≡ 0 → SlotOrderAt (q .sheet) L pair r → SlotOrderOf bytes L pair (orderAnswer r)
   order-served {L} {pair} {r} z l = served-order (sym same-answer ∙ z) (subst (λ (s : Sheet). SlotOrderAt s L pair r) (ap (λ (x : ReadAnswer). x .sheet) e) l)

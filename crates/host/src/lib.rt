@@ -1,8 +1,14 @@
 // C calls on the bytes of a sheet: least interval, plan text, slot order. They read the sheet and call the service; include/leastplan.h describes them.
 ghost use Rattle.host.specs.Calls.{LeastOf, PlanTextOf, SlotOrderOf};
 use plan::IntervalAnswer;
-use slot_order::SlotOrder;
 use text::Written;
+
+// The slot order, or why there is none. A C call gives 5 without the edges.
+#[repr(C)]
+pub struct OrderAnswer {
+    pub answer: usize,
+    pub order: usize,
+}
 
 #[no_mangle]
 pub extern "C" fn leastplan_least_interval(sheet: &[u8]) -> IntervalAnswer
@@ -30,18 +36,26 @@ pub extern "C" fn leastplan_plan_text(sheet: &[u8], interval: usize, out: &mut [
         return Written { answer, count: 0 };
     }
     let numbers = read.sheet;
-    report::plan_text(numbers, interval, out)
+    let text = report::plan_text(numbers, interval, out);
+    Written {
+        answer: text.answer,
+        count: text.count,
+    }
 }
 
 #[no_mangle]
-pub extern "C" fn leastplan_slot_order(sheet: &[u8], interval: usize, pair: usize) -> SlotOrder
+pub extern "C" fn leastplan_slot_order(sheet: &[u8], interval: usize, pair: usize) -> OrderAnswer
     ensures { λ r. ⌜ SlotOrderOf (now (sheet .entry)) interval pair r ⌝ }
 {
     let read = reader::read(sheet);
     let answer = read.answer;
     if answer != 0 {
-        return SlotOrder { answer, order: 0 };
+        return OrderAnswer { answer, order: 0 };
     }
     let numbers = read.sheet;
-    slot_order::slot_order(numbers, interval, pair)
+    let found = slot_order::slot_order(numbers, interval, pair);
+    OrderAnswer {
+        answer: found.answer,
+        order: found.order,
+    }
 }

@@ -17,25 +17,45 @@ mod lines; // lines.rt: the lines of one interval, by their places
 // Room for whatever leastplan prints.
 const ROOM: usize = 8192;
 
-// The plan's text at the front of `out` and its count of bytes; 3, 4, 5, 6, or 9 where the whole text does not fit, and then `out` stays as it was.
-pub fn plan_text(sheet: Sheet, interval: usize, out: &mut [u8]) -> Written
+// The count of bytes of a plan's text, or why there is none; with 5 the first bad closed walk.
+#[repr(C)]
+pub struct PlanWritten {
+    pub answer: usize,
+    pub count: usize,
+    pub loop_length: usize,
+    pub loop_edges: [usize; 24],
+}
+
+// The plan's text at the front of `out` and its count of bytes, or why there is none: 3, 4, 5 with the first bad closed walk, 6, or 9 where the whole
+// text does not fit. With a refusal `out` stays as it was.
+pub fn plan_text(sheet: Sheet, interval: usize, out: &mut [u8]) -> PlanWritten
     ensures { λ r. ⌜ PlanText sheet interval (now (out .entry)) r (now (out .exit)) ⌝ }
 {
     let a = schedule::plan_at(sheet, interval);
     if a.answer != 0 {
-        return Written {
+        let loop_edges = a.loop_edges;
+        return PlanWritten {
             answer: a.answer,
             count: 0,
+            loop_length: a.loop_length,
+            loop_edges,
         };
     }
     if out.len() < lines::text_length(sheet, interval, a) {
-        return Written {
+        return PlanWritten {
             answer: 9,
             count: 0,
+            loop_length: 0,
+            loop_edges: [0; 24],
         };
     }
     let count = lines::fill(out, sheet, interval, a);
-    Written { answer: 0, count }
+    PlanWritten {
+        answer: 0,
+        count,
+        loop_length: 0,
+        loop_edges: [0; 24],
+    }
 }
 
 // The line `answer=` alone, and how many bytes it has.

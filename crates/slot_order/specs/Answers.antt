@@ -1,7 +1,7 @@
 -- Slot order: what each answer says, in terms of the plan at the interval. Each pins the whole result and carries why it is right.
 use Prim.Native.Nat.{ℕ, _*_, _-_, _/_, _<_}
 use mathlib.Core.Path.{_≡_}
-use Rattle.laws.specs.Entry.{vec}
+use Rattle.laws.specs.Entry.{zeros, vec}
 use Rattle.sheet.specs.declared.Sheet.{Sheet}
 use Rattle.plan.specs.declared.PlanAnswer.{PlanAnswer}
 use Rattle.plan.specs.Rules.{Rivals, slot}
@@ -15,18 +15,19 @@ pub data Order (a b : ℕ) : ℕ → Type 0 where
   first : a < b → Order a b 1
   second : b < a → Order a b 2
 
--- the number of a refusal, and 0 for the order
+-- the number of a refusal, and 0 for every other number
 abbrev pub refused : ℕ → SlotOrder
-refused n = record { answer = n; order = 0 }
+refused n = record { answer = n; order = 0; «loop_length» = 0; «loop_edges» = zeros }
 
 -- the answers of the service "slot order" for a pair number, in the order of the questions 3 to 6, 14 and 15
 pub data SlotOrderAt (s : Sheet) (L pair : ℕ) : SlotOrder → Type 0 where
-  -- 3 to 6: the plan's own refusal
-  no-plan : (p : PlanAnswer) → PlanAt s L p → (p .answer ≡ 0 → ⊥) → SlotOrderAt s L pair (refused (p .answer))
+  -- 3 to 6: the plan's own refusal, for 5 with the edges
+  no-plan : (p : PlanAnswer) → PlanAt s L p → (p .answer ≡ 0 → ⊥) →
+      SlotOrderAt s L pair (record { answer = p .answer; order = 0; «loop_length» = p .«loop_length»; «loop_edges» = p .«loop_edges» })
   -- 14
   no-pair : (p : PlanAnswer) → PlanAt s L p → p .answer ≡ 0 → (pair < s .«op_count» * (s .«op_count» - 1) / 2 → ⊥) → SlotOrderAt s L pair (refused 14)
   -- 15
   no-rivals : (p : PlanAnswer) → PlanAt s L p → p .answer ≡ 0 → (i j : ℕ) → Pair (s .«op_count») pair i j → (Rivals s i j → ⊥) → SlotOrderAt s L pair (refused 15)
   -- the order of the slots in the plan given
   ordered : (p : PlanAnswer) → PlanAt s L p → p .answer ≡ 0 → (i j : ℕ) → Pair (s .«op_count») pair i j → Rivals s i j →
-      {o : ℕ} → Order (slot L (vec (p .starts) i)) (slot L (vec (p .starts) j)) o → SlotOrderAt s L pair (record { answer = 0; order = o })
+      {o : ℕ} → Order (slot L (vec (p .starts) i)) (slot L (vec (p .starts) j)) o → SlotOrderAt s L pair (record { answer = 0; order = o; «loop_length» = 0; «loop_edges» = zeros })

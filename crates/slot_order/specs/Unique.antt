@@ -3,7 +3,7 @@
 use mathlib.Core.Path.{_≡_, refl, sym, ap, subst, _∙_}
 use Prim.Native.Nat.{ℕ}
 use native.Mathlib.Omega.{arith}
-use Rattle.laws.specs.Entry.{vec}
+use Rattle.laws.specs.Entry.{zeros, vec}
 use Rattle.sheet.specs.declared.Sheet.{Sheet}
 use Rattle.sheet.specs.Sheet.{InRange}
 use Rattle.sheet.specs.Facts.{ops-most}
@@ -39,7 +39,8 @@ one-plan a b = ap (λ (x : PlanAnswer). x .answer) (plan-at-unique a b)
 
 module _ {s : Sheet} {L pair : ℕ} where
   pub slot-order-unique : {r r' : SlotOrder} → SlotOrderAt s L pair r → SlotOrderAt s L pair r' → r ≡ r'
-  slot-order-unique (no-plan p a n) (no-plan q b m) = ap (λ (k : ℕ). record { answer = k; order = 0 }) (one-plan a b)
+  slot-order-unique (no-plan p a n) (no-plan q b m) =
+      ap (λ (x : PlanAnswer). record { answer = x .answer; order = 0; «loop_length» = x .«loop_length»; «loop_edges» = x .«loop_edges» }) (plan-at-unique a b)
   slot-order-unique (no-plan p a n) (no-pair q b e _) = absurd (n (one-plan a b ∙ e))
   slot-order-unique (no-plan p a n) (no-rivals q b e _ _ _ _) = absurd (n (one-plan a b ∙ e))
   slot-order-unique (no-plan p a n) (ordered q b e _ _ _ _ _) = absurd (n (one-plan a b ∙ e))
@@ -65,4 +66,4 @@ module _ {s : Sheet} {L pair : ℕ} where
       subst (λ (c : PlanAnswer). Order (slot L (vec (c .starts) i)) (slot L (vec (c .starts) j)) o') z
       (subst (λ (h : ℕ). Order (slot L (vec (q .starts) h)) (slot L (vec (q .starts) j)) o') (u .0)
       (subst (λ (h : ℕ). Order (slot L (vec (q .starts) i')) (slot L (vec (q .starts) h)) o') (u .1) y)) in
-      ap (λ (k : ℕ). record { answer = 0; order = k }) (order-unique x w)
+      ap (λ (k : ℕ). record { answer = 0; order = k; «loop_length» = 0; «loop_edges» = zeros }) (order-unique x w)

@@ -3,7 +3,7 @@ ghost use Prim.Native.Nat.{_<_};
 ghost use mathlib.Core.Path.{_≡_};
 ghost use Rattle.plan.specs.Answers.{PlanAt};
 ghost use Rattle.slot_order.specs.Pairs.{Between};
-ghost use Rattle.slot_order.specs.Answers.{SlotOrderAt, Order};
+ghost use Rattle.slot_order.specs.Answers.{SlotOrderAt, Order, refused};
 use plan::PlanAnswer;
 use sheet::Sheet;
 
@@ -36,10 +36,25 @@ const FIRST_PAIRS: [usize; 25] = [
     276,
 ];
 
+// The slot order, or why there is none; with 5 the first bad closed walk.
 #[repr(C)]
 pub struct SlotOrder {
     pub answer: usize,
     pub order: usize,
+    pub loop_length: usize,
+    pub loop_edges: [usize; 24],
+}
+
+// A refusal without edges: its number, and 0 for every other number.
+fn refusal(answer: usize) -> SlotOrder
+    ensures { λ r. ⌜ r ≡ refused answer ⌝ }
+{
+    SlotOrder {
+        answer,
+        order: 0,
+        loop_length: 0,
+        loop_edges: [0; 24],
+    }
 }
 
 // The later operation j of a pair.
@@ -77,25 +92,22 @@ fn order_in(sheet: Sheet, interval: usize, pair: usize, plan: PlanAnswer) -> Slo
     ensures { λ r. ⌜ SlotOrderAt sheet interval pair r ⌝ }
 {
     if plan.answer != 0 {
+        let loop_edges = plan.loop_edges;
         return SlotOrder {
             answer: plan.answer,
             order: 0,
+            loop_length: plan.loop_length,
+            loop_edges,
         };
     }
     let count = sheet.op_count;
     if FIRST_PAIRS[count] <= pair {
-        return SlotOrder {
-            answer: 14,
-            order: 0,
-        };
+        return refusal(14);
     }
     let j = later_of(pair);
     let i = pair - FIRST_PAIRS[j];
     if !rules::rivals(sheet, i, j) {
-        return SlotOrder {
-            answer: 15,
-            order: 0,
-        };
+        return refusal(15);
     }
     let starts = plan.starts;
     let a = rules::slot_of(interval, starts[i]);
@@ -103,10 +115,12 @@ fn order_in(sheet: Sheet, interval: usize, pair: usize, plan: PlanAnswer) -> Slo
     SlotOrder {
         answer: 0,
         order: order_of(a, b),
+        loop_length: 0,
+        loop_edges: [0; 24],
     }
 }
 
-// The slot order of a pair of operations in the plan at an interval: questions 3 to 6, 14 and 15.
+// The slot order of a pair of operations in the plan at an interval, or why there is none: 3, 4, 5 with the first bad closed walk, 6, 14, 15.
 pub fn slot_order(sheet: Sheet, interval: usize, pair: usize) -> SlotOrder
     ensures { λ r. ⌜ SlotOrderAt sheet interval pair r ⌝ }
 {

@@ -12,7 +12,7 @@ plan-at-requires : tie.Need-plan-at-requires
 plan-at-requires c κs = search needs
 
 returns : tie.Need-returns
-returns c = refusal (c .before .before .plan-at .ensures) (c .if1 .taken)
+returns c = refusal (c .before .before .before .plan-at .ensures) (c .before .if1 .taken)
 
 text-length-requires : tie.Need-text-length-requires
 text-length-requires c κs = plan-small (c .before .before .plan-at .ensures) (c .if1 .left)

@@ -27,7 +27,7 @@ below c =
     (omega (arith, p .before, p .within), omega (arith, p .within))
 
 returns : tie.Need-returns
-returns c = no-plan _ (c .before .before .pre) (c .if1 .taken)
+returns c = no-plan _ (c .before .before .before .pre) (c .before .if1 .taken)
 
 mul-if2 : tie.Need-mul-if2
 mul-if2 c = let h = ops-most (ranged c) in omega arith
@@ -35,8 +35,13 @@ mul-if2 c = let h = ops-most (ranged c) in omega arith
 array-read-if2 : tie.Need-array-read-if2
 array-read-if2 c = let h = ops-most (ranged c) in omega arith
 
+refusal-requires : tie.Need-refusal-requires
+refusal-requires c κs = search needs
+
 returns-2 : tie.Need-returns-2
-returns-2 c = no-pair _ (c .before .before .before .pre) (c .before .if1 .left) (not-below _ _ (ops-most (ranged (c .before))) (c .if2 .taken))
+returns-2 c =
+    let b = c .before in
+    rw (c .refusal .ensures) (no-pair _ (b .before .before .before .pre) (b .before .if1 .left) (not-below _ _ (ops-most (ranged (b .before))) (b .if2 .taken)))
 
 later-of-requires : tie.Need-later-of-requires
 later-of-requires c κs = let h = top _ (ops-most (ranged (c .before))) in omega (arith, c .if2 .left)
@@ -53,8 +58,14 @@ sub-i c = search needs
 rivals-requires : tie.Need-rivals-requires
 rivals-requires c κs = search needs
 
+refusal-requires-2 : tie.Need-refusal-requires-2
+refusal-requires-2 c κs = search needs
+
 returns-3 : tie.Need-returns-3
-returns-3 c = no-rivals _ (c .before .before .before .before .before .before .pre) (c .before .before .before .before .if1 .left) _ _ (found (c .before .before)) (denied (c .before .rivals .ensures) (c .if3 .taken))
+returns-3 c =
+    let b = c .before in
+    rw (c .refusal2 .ensures)
+    (no-rivals _ (b .before .before .before .before .before .before .pre) (b .before .before .before .before .if1 .left) _ _ (found (b .before .before)) (denied (b .before .rivals .ensures) (b .if3 .taken)))
 
 mul-slot-of : tie.Need-mul-slot-of
 mul-slot-of c = let h = below (c .before .before .before) in omega arith
@@ -89,12 +100,14 @@ order-in-spec =
     returns
     mul-if2
     array-read-if2
+    refusal-requires
     returns-2
     later-of-requires
     mul-i
     array-read-i
     sub-i
     rivals-requires
+    refusal-requires-2
     returns-3
     mul-slot-of
     array-read-slot-of
