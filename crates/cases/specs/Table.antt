@@ -1,4 +1,4 @@
--- The starred cases of document 01: one table of claims about the rules.
+-- The starred cases of document 01: one table of claims about the rules. The sheets are as a reader gives them, with 0 past their counts.
 use mathlib.Core.List.{List, [], _∷_}
 use Prim.Native.Nat.{ℕ}
 use lib.IntN.{ℤ, pos, negsuc}
@@ -6,6 +6,7 @@ use Rattle.dependence.specs.declared.Edge.{Edge}
 use Rattle.sheet.specs.declared.Sheet.{Sheet}
 use Rattle.sheet.specs.declared.Operation.{Operation}
 use Rattle.sheet.specs.declared.ResourceType.{ResourceType}
+use Rattle.reader.specs.Read.{sheetOf}
 use Rattle.cases.specs.Claims.{Claim, refuses-interval, refuses-walk, refuses-plan, gives, least-is, least-refused, recurrence-is, recurrence-refused, resource-is, pair-out, pair-in}
 
 abbrev type : ℕ → ℕ → ResourceType
@@ -19,68 +20,23 @@ edge i j d b = record { from = i; to = j; delay = d; distance = b }
 
 -- case A, and B with another horizon
 abbrev ring : ℕ → Sheet
-ring horizon = record {
-  horizon = horizon;
-  cap = 4;
-  «type_count» = 2;
-  types = type 1 1 ∷ type 0 1 ∷ [];
-  «op_count» = 3;
-  ops = op 0 ∷ op 1 ∷ op 0 ∷ [];
-  «edge_count» = 3;
-  edges = edge 0 1 (pos 0) 0 ∷ edge 1 2 (pos 0) 0 ∷ edge 2 0 (pos 0) 2 ∷ [];
-}
+ring horizon = sheetOf horizon 4 (type 1 1 ∷ type 0 1 ∷ []) (op 0 ∷ op 1 ∷ op 0 ∷ []) (edge 0 1 (pos 0) 0 ∷ edge 1 2 (pos 0) 0 ∷ edge 2 0 (pos 0) 2 ∷ [])
 
 -- two operations of one type, held exactly four clocks apart
 abbrev apart : Sheet
-apart = record {
-  horizon = 5;
-  cap = 5;
-  «type_count» = 1;
-  types = type 1 1 ∷ [];
-  «op_count» = 2;
-  ops = op 0 ∷ op 0 ∷ [];
-  «edge_count» = 2;
-  edges = edge 0 1 (pos 3) 0 ∷ edge 1 0 (negsuc 4) 0 ∷ [];
-}
+apart = sheetOf 5 5 (type 1 1 ∷ []) (op 0 ∷ op 0 ∷ []) (edge 0 1 (pos 3) 0 ∷ edge 1 0 (negsuc 4) 0 ∷ [])
 
 -- one operation of latency d that depends on itself
 abbrev itself : ℕ → Sheet
-itself d = record {
-  horizon = 4;
-  cap = 3;
-  «type_count» = 1;
-  types = type 1 d ∷ [];
-  «op_count» = 1;
-  ops = op 0 ∷ [];
-  «edge_count» = 1;
-  edges = edge 0 0 (pos 0) 0 ∷ [];
-}
+itself d = sheetOf 4 3 (type 1 d ∷ []) (op 0 ∷ []) (edge 0 0 (pos 0) 0 ∷ [])
 
 -- three operations of a type with two instances
 abbrev three : ℕ → Sheet
-three horizon = record {
-  horizon = horizon;
-  cap = 2;
-  «type_count» = 1;
-  types = type 2 1 ∷ [];
-  «op_count» = 3;
-  ops = op 0 ∷ op 0 ∷ op 0 ∷ [];
-  «edge_count» = 0;
-  edges = [];
-}
+three horizon = sheetOf horizon 2 (type 2 1 ∷ []) (op 0 ∷ op 0 ∷ op 0 ∷ []) []
 
 -- one operation of latency 2 in a horizon of 1
 abbrev alone : Sheet
-alone = record {
-  horizon = 1;
-  cap = 3;
-  «type_count» = 1;
-  types = type 1 2 ∷ [];
-  «op_count» = 1;
-  ops = op 0 ∷ [];
-  «edge_count» = 0;
-  edges = [];
-}
+alone = sheetOf 1 3 (type 1 2 ∷ []) (op 0 ∷ []) []
 
 -- the claims of the starred cases in the order of 01; of case A also the answer at each interval that leastplan prints
 abbrev pub table : List Claim
@@ -103,11 +59,15 @@ table =
     least-refused (itself 1) ∷
     recurrence-refused (itself 1) (0 ∷ []) ∷
     gives (itself 0) 1 (0 ∷ []) (0 ∷ []) ∷
+    gives (itself 0) 2 (0 ∷ []) (0 ∷ []) ∷
+    gives (itself 0) 3 (0 ∷ []) (0 ∷ []) ∷
     refuses-plan (three 1) 1 (0 ∷ 0 ∷ 0 ∷ []) ∷
     gives (three 2) 2 (0 ∷ 0 ∷ 1 ∷ []) (0 ∷ 1 ∷ 0 ∷ []) ∷
     gives alone 1 (0 ∷ []) (0 ∷ []) ∷
+    gives alone 2 (0 ∷ []) (0 ∷ []) ∷
+    gives alone 3 (0 ∷ []) (0 ∷ []) ∷
     refuses-interval (ring 3) 0 ∷
     refuses-interval (ring 3) 5 ∷
-    pair-out 1 0 ∷
+    pair-out alone 1 (0 ∷ []) (0 ∷ []) 0 ∷
     pair-in 24 275 ∷
     []

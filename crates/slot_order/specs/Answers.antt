@@ -1,12 +1,12 @@
 -- Slot order: what each answer says, in terms of the plan at the interval. Each pins the whole result and carries why it is right.
-use Prim.Native.Nat.{ℕ, _*_, _-_, _/_, _<_}
+use Prim.Native.Nat.{ℕ, _<_}
 use mathlib.Core.Path.{_≡_}
 use Rattle.laws.specs.Entry.{zeros, vec}
 use Rattle.sheet.specs.declared.Sheet.{Sheet}
 use Rattle.plan.specs.declared.PlanAnswer.{PlanAnswer}
 use Rattle.plan.specs.Rules.{Rivals, slot}
 use Rattle.plan.specs.Answers.{PlanAt}
-use Rattle.slot_order.specs.Pairs.{Pair}
+use Rattle.slot_order.specs.Pairs.{Pair, PairNumber}
 use Rattle.slot_order.specs.declared.SlotOrder.{SlotOrder}
 
 -- 0 for the same slot, 1 if the first has the smaller slot, 2 if the second has
@@ -25,7 +25,7 @@ pub data SlotOrderAt (s : Sheet) (L pair : ℕ) : SlotOrder → Type 0 where
   no-plan : (p : PlanAnswer) → PlanAt s L p → (p .answer ≡ 0 → ⊥) →
       SlotOrderAt s L pair (record { answer = p .answer; order = 0; «loop_length» = p .«loop_length»; «loop_edges» = p .«loop_edges» })
   -- 14
-  no-pair : (p : PlanAnswer) → PlanAt s L p → p .answer ≡ 0 → (pair < s .«op_count» * (s .«op_count» - 1) / 2 → ⊥) → SlotOrderAt s L pair (refused 14)
+  no-pair : (p : PlanAnswer) → PlanAt s L p → p .answer ≡ 0 → (PairNumber (s .«op_count») pair → ⊥) → SlotOrderAt s L pair (refused 14)
   -- 15
   no-rivals : (p : PlanAnswer) → PlanAt s L p → p .answer ≡ 0 → (i j : ℕ) → Pair (s .«op_count») pair i j → (Rivals s i j → ⊥) → SlotOrderAt s L pair (refused 15)
   -- the order of the slots in the plan given

@@ -12,11 +12,19 @@ use lib.ListN.{getD}
 use borrow.Author.Tests.{eqb-true}
 use Rattle.laws.specs.Z.{true-false}
 
--- operations i < j of n form this pair
+-- the pairs of n operations: N × (N − 1) / 2
+abbrev pub pairCount : ℕ → ℕ
+pairCount n = n * (n - 1) / 2
+
+-- question 14: the pair number is below N × (N − 1) / 2
+abbrev pub PairNumber : ℕ → ℕ → Type 0
+PairNumber n pair = pair < pairCount n
+
+-- operations i < j of n form this pair: j × (j − 1) / 2 + i
 pub record Pair (n pair i j : ℕ) : Type 0 where
   pub before : i < j
   pub within : j < n
-  pub number : pair ≡ j * (j - 1) / 2 + i
+  pub number : pair ≡ pairCount j + i
 
 -- ---- the table
 
@@ -45,9 +53,9 @@ all-at test zero e i h = absurd (omega arith)
 all-at test (suc n) e i h = all-last test n i (test n) refl e h (λ f q. all-at test n f i q) (ℕ-discrete i n)
 
 -- the table's rule, by one test that is computed over the whole table
-pub rule : (j : ℕ) → j < 25 → firstPair j ≡ j * (j - 1) / 2
+pub rule : (j : ℕ) → j < 25 → firstPair j ≡ pairCount j
 unfolding all
-rule j h = eqb-true (firstPair j) (j * (j - 1) / 2) (all-at (λ j. eqb (firstPair j) (j * (j - 1) / 2)) 25 refl j h)
+rule j h = eqb-true (firstPair j) (pairCount j) (all-at (λ j. eqb (firstPair j) (pairCount j)) 25 refl j h)
 
 -- the next j has j more pairs before it
 pub step : (j : ℕ) → j < 24 → firstPair (suc j) ≡ firstPair j + j
@@ -79,7 +87,7 @@ pub pair-unique : {n pair i j i' j' : ℕ} → n ≤ 24 → Pair n pair i j → 
 pair-unique {j = j} {j' = j'} h p q = unique-at h p q (ℕ-discrete j j') (decLt j j')
 
 -- a pair of operations has a number below that of all pairs
-pub pair-below : {n pair i j : ℕ} → n ≤ 24 → Pair n pair i j → pair < n * (n - 1) / 2
+pub pair-below : {n pair i j : ℕ} → n ≤ 24 → Pair n pair i j → PairNumber n pair
 pair-below {n} {pair} {i} {j} h p = subst (λ (x : ℕ). pair < x) (rule n (omega arith)) (omega (arith, by-table h p, far j n (p .within) (omega arith), p .before))
 
 -- ---- the later operation of a pair, by the table
@@ -106,7 +114,7 @@ between-pair n pair j h l b = record {
 
 -- ---- the number of all pairs of n operations
 
-pub not-below : (n pair : ℕ) → n ≤ 24 → firstPair n ≤ pair → pair < n * (n - 1) / 2 → ⊥
+pub not-below : (n pair : ℕ) → n ≤ 24 → firstPair n ≤ pair → PairNumber n pair → ⊥
 not-below n pair h l q = let r : pair < firstPair n = subst (λ (x : ℕ). pair < x) (sym (rule n (omega arith))) q in omega arith
 
 top-at : (n : ℕ) → n ≤ 24 → Dec (n ≡ 24) → firstPair n ≤ 276
