@@ -1,14 +1,14 @@
 // The dependence services on a loop sheet: earliest starts, separations and the recurrence bound. Each puts its questions in numeric order and
 // asks the dependence part about the sheet's graph.
 ghost use mathlib.Core.Path.{_≡_};
-ghost use Rattle.services.specs.Answers.{WalkAt, StartsAt, SeparationsAt, RecurrenceAt, walkRefused, startsRefused};
+ghost use Rattle.services.specs.Answers.{WalkAt, StartsAt, SeparationsAt, RecurrenceAt, withoutLoop, startsRefused};
 use dependence::BadWalk;
 use dependence::Bound;
 use dependence::Starts;
 use sheet::Sheet;
 
-fn walk_refused(answer: usize) -> BadWalk
-    ensures { λ r. ⌜ r ≡ walkRefused answer ⌝ }
+fn without_loop(answer: usize) -> BadWalk
+    ensures { λ r. ⌜ r ≡ withoutLoop answer ⌝ }
 {
     BadWalk {
         answer,
@@ -37,9 +37,9 @@ pub fn bad_walk(sheet: Sheet, interval: usize) -> BadWalk
             let graph = sheet::graph_of(sheet);
             return dependence::bad_walk(graph, interval);
         }
-        return walk_refused(4);
+        return without_loop(4);
     }
-    walk_refused(3)
+    without_loop(3)
 }
 
 // The least starts, all at least 0, that meet every dependence; the horizon plays no part. Or 3, 4, 5 with the first bad closed walk.
