@@ -24,9 +24,6 @@ ranged c = c .before .before .before .before .before .in-range .ensures .yes (c 
 capped : (c : tie.In-loop Inv-loop μ-loop) → Interval (c .before .before .before .before .before .before .args .cap)
 capped c = c .before .before .before .interval-ok .ensures .yes (c .before .before .if2 .taken)
 
-spaced : (c : tie.In-loop Inv-loop μ-loop) → Interval (c .before .loop .l)
-spaced c = record { low = c .before .loop .inv .0; high = omega (arith, c .loop-test .taken, capped c .high) }
-
 in-range-requires : tie.Need-in-range-requires Inv-loop μ-loop
 in-range-requires c κs = search needs
 
@@ -36,8 +33,11 @@ interval-ok-requires c κs = search needs
 loop-holds : tie.Need-loop-holds Inv-loop μ-loop
 loop-holds c = (omega arith, omega arith, λ i a h. absurd (omega arith))
 
+-- by its bounds, which other intervals have too: which one it is shows at the result
 net-of-requires : tie.Need-net-of-requires Inv-loop μ-loop
-net-of-requires c κs = (ranged c, spaced c)
+net-of-requires c κs =
+    let i = capped c in
+    (ranged c, record { low = omega (arith, c .before .loop .inv .0, i .low); high = omega (arith, c .loop-test .taken, i .high) })
 
 settle-requires : tie.Need-settle-requires Inv-loop μ-loop
 settle-requires c κs = (c .net-of .ensures .0, omega (arith, c .net-of .ensures .1 .ops, ranged (c .before) .ops-some), zero-below)
