@@ -1,12 +1,13 @@
 #!/usr/bin/env python3
 """Makes the stored inputs and outputs of sheet_cases, plan_cases and placing_cases, from the reference.
 
-An input is a run of pieces, each a line bytes=N and N bytes of a sheet. The outputs have a line -- before
-the answer to each piece. As a program:  stored.py   writes crates/*_cases/stdin and stdout anew.
+An input is a run of pieces, each a line bytes=N and N bytes: a sheet, and for placing_cases a sheet and a script by turns.
+The outputs have a line -- before the answer to each sheet. As a program:  stored.py   writes crates/*_cases/stdin and stdout anew.
 """
 
 import os
 
+import placings
 import reference as ref
 import sheets
 from reference import Sheet
@@ -254,46 +255,17 @@ def plan_pieces():
     return list(dict.fromkeys(pieces))
 
 
-# ---- steps of placing
-
-
-def placing_steps(sheet, interval):
-    """What placing_cases prints for one interval; a refused sheet is all 0, and so out of range."""
-    refused = 3 if sheet is None else 4 if not 1 <= interval <= sheet.cap else 0
-    yield b"place=%d,0\n" % refused
-    table = ref.new_table()
-    for step in range(32):
-        asked = interval + (step >= 20)
-        answer, unit = 3, 0
-        if sheet is not None:
-            answer, unit, table = ref.place(sheet, asked, table, step * 5 % 6, step * 3 % 7)
-        yield b"place=%d,%d\n" % (answer, unit)
-
-
-def placing_answer(piece):
-    sheet = ref.read_sheet(piece)[1]
-    return b"".join(line for interval in range(4) for line in placing_steps(sheet, interval))
-
-
-def placing_pieces():
-    rng = sheets.seeded(5)
-    pieces = [b"", ref.sheet_text(Sheet(8, 4, [(2, 1), (0, 1)], [0, 0, 0, 1, 0, 0, 1], []))]
-    made = [sheets.small_sheet(rng) for _ in range(600)]
-    roomy = [s for s in made if len(s.ops) > 3 and s.horizon > 4 and s.cap > 3]
-    pieces += [ref.sheet_text(s) for s in made[:10] + roomy[:60]]
-    return list(dict.fromkeys(pieces))
-
-
 # ---- files
 
 
 def stored_files():
     """(path, content) of each stored file."""
-    reads, plans, placings = reader_pieces(), plan_pieces(), placing_pieces()
+    reads, plans = reader_pieces(), plan_pieces()
+    pieces, answers = placings.stored()
     yield "crates/sheet_cases/stdin", framed(reads)
     yield "crates/sheet_cases/stdout", marked(read_answer(p) for p in reads)
-    yield "crates/placing_cases/stdin", framed(placings)
-    yield "crates/placing_cases/stdout", marked(placing_answer(p) for p in placings)
+    yield "crates/placing_cases/stdin", framed(pieces)
+    yield "crates/placing_cases/stdout", marked(answers)
     yield "crates/plan_cases/stdin", framed(plans)
     yield "crates/plan_cases/stdout", marked(ref.leastplan(p) for p in plans)
 

@@ -1,79 +1,46 @@
-// Places operations of each sheet of standard input step by step, and prints the answer and the instance of each step.
-// The steps go through operations and starts in and out of range; the later ones ask about another interval with the same table.
+// Runs scripts on placing tables and prints what is answered. Standard input has pieces in pairs, a sheet and then the script for it.
+mod print;
+mod script;
+
 use libc::STDIN_FILENO;
 use libc::STDOUT_FILENO;
-use sheet::Sheet;
 
 // The most bytes of standard input that are looked at.
 const INPUT: usize = 262144;
 
-const STEPS: usize = 32;
-
-// From this step on the interval is one more.
-const OTHER_INTERVAL: usize = 20;
-
-fn wide(n: usize) -> u64 {
-    n as u64
-}
-
-fn print_step(answer: usize, instance: usize) {
-    io::write_all(STDOUT_FILENO, b"place=");
-    io::print_decimal(STDOUT_FILENO, wide(answer));
-    io::write_all(STDOUT_FILENO, b",");
-    io::print_decimal(STDOUT_FILENO, wide(instance));
-    io::write_all(STDOUT_FILENO, b"\n");
-}
-
-fn interval_at(interval: usize, step: usize) -> usize {
-    if step < OTHER_INTERVAL {
-        return interval;
-    }
-    if 64 < interval {
-        return interval;
-    }
-    interval + 1
-}
-
-fn place_all(sheet: Sheet, interval: usize) {
-    let new = placing::new_table(sheet, interval);
-    let mut table = new.table;
-    print_step(new.answer, 0);
-    let mut step = 0;
-    while step < STEPS {
-        let op = step * 5 % 6;
-        let start = step * 3 % 7;
-        let placed = placing::place(sheet, interval_at(interval, step), table, op, start);
-        print_step(placed.answer, placed.instance);
-        let next = placed.table;
-        table = next;
-        step += 1;
-    }
-}
-
-// Intervals 0 to 3, the first of which is none.
-fn answer(bytes: &[u8]) {
+fn answer(bytes: &[u8], lines: &[u8]) {
     io::write_all(STDOUT_FILENO, b"--\n");
     let read = reader::read(bytes);
     let sheet = read.sheet;
-    place_all(sheet, 0);
-    place_all(sheet, 1);
-    place_all(sheet, 2);
-    place_all(sheet, 3);
+    script::run(sheet, lines);
+}
+
+// The sheet and the script at `at`, and the place after them; 0 where they are not there.
+fn answer_pair(input: &[u8], at: usize) -> usize {
+    let first = frames::next(input, at);
+    if !first.ok {
+        return 0;
+    }
+    let start = first.start;
+    let end = first.end;
+    let second = frames::next(input, end);
+    if !second.ok {
+        return 0;
+    }
+    let from = second.start;
+    let to = second.end;
+    answer(&input[start..end], &input[from..to]);
+    to
 }
 
 fn answer_all(input: &[u8]) {
-    let mut at = 0;
-    let mut i = 0;
-    while i < INPUT {
-        let piece = frames::next(input, at);
-        if !piece.ok {
+    let mut at: usize = 0;
+    while at < input.len() {
+        let next = answer_pair(input, at);
+        if next <= at {
             return;
         }
-        let start = piece.start;
-        let end = piece.end;
-        answer(&input[start..end]);
-        at = end;
-        i += 1;
+        at = next;
     }
 }
 

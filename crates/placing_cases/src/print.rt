@@ -1,0 +1,80 @@
+// Lines on standard output: a key and the numbers of an answer.
+use libc::STDOUT_FILENO;
+use placing::Placement;
+use placing::Table;
+use sheet::MOST_OPERATIONS;
+
+fn text(s: &[u8]) {
+    io::write_all(STDOUT_FILENO, s);
+}
+
+fn number(n: usize) {
+    io::print_decimal(STDOUT_FILENO, n as u64);
+}
+
+fn flag(yes: bool) {
+    if yes {
+        text(b"1");
+        return;
+    }
+    text(b"0");
+}
+
+// The answer of a new table.
+pub fn made(answer: usize) {
+    text(b"new=");
+    number(answer);
+    text(b"\n");
+}
+
+// Whether a table is consistent.
+pub fn verdict(consistent: bool) {
+    text(b"consistent=");
+    flag(consistent);
+    text(b"\n");
+}
+
+// The answer of a placing, and the instance.
+pub fn placed(answer: usize, instance: usize) {
+    text(b"place=");
+    number(answer);
+    text(b",");
+    number(instance);
+    text(b"\n");
+}
+
+fn is_nothing(p: Placement) -> bool {
+    if p.placed {
+        return false;
+    }
+    if p.start != 0 {
+        return false;
+    }
+    p.instance == 0
+}
+
+// An entry, unless all of it is 0.
+fn entry(i: usize, p: Placement) {
+    if is_nothing(p) {
+        return;
+    }
+    text(b"entry=");
+    number(i);
+    text(b",");
+    flag(p.placed);
+    text(b",");
+    number(p.start);
+    text(b",");
+    number(p.instance);
+    text(b"\n");
+}
+
+// The entries of a table; those that are not printed are all 0.
+pub fn table(all: Table) {
+    let mut i: usize = 0;
+    while i < MOST_OPERATIONS {
+        let p = all.entries[i];
+        entry(i, p);
+        i += 1;
+    }
+}
