@@ -13,7 +13,7 @@ class Answer(ctypes.Structure):
 
 class Host:
     def __init__(self):
-        self.library = product.host_library()
+        self.library = product.library("host")
         for name in ("leastplan_least_interval", "leastplan_plan_text", "leastplan_slot_order"):
             getattr(self.library, name).restype = Answer
 

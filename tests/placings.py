@@ -27,8 +27,7 @@ def answers_of(sheet, script):
             table = ref.new_table()
             yield b"new=%d\n" % new_answer(sheet, *numbers)
         elif key == b"entry":
-            i, p, start, unit = numbers
-            table = table[:i] + [(p != 0, start, unit)] + table[i + 1 :]
+            table = with_entry(table, *numbers)
         elif key == b"consistent":
             yield b"consistent=%d\n" % ref.consistent(sheet, numbers[0], table)
         elif key == b"place":
@@ -38,6 +37,10 @@ def answers_of(sheet, script):
             for i, entry in enumerate(table):
                 if entry != (False, 0, 0):
                     yield b"entry=%d,%d,%d,%d\n" % (i, *entry)
+
+
+def with_entry(table, i, p, start, unit):
+    return table[:i] + [(p != 0, start, unit)] + table[i + 1 :]
 
 
 def new_answer(sheet, interval):

@@ -38,22 +38,37 @@ def run(name, data):
     return done.stdout
 
 
-def archive():
-    """The static library of the crate host."""
-    path = os.path.join(ROOT, "target", "staticlib", "libhost.a")
+def archive(name="host"):
+    """The static library of a crate that has C calls."""
+    path = os.path.join(ROOT, "target", "staticlib", "lib%s.a" % name)
     if not os.path.exists(path):
-        rt("staticlib", "host")
+        rt("staticlib", name)
     return path
 
 
-def host_library():
-    """The archive as a shared object, loaded."""
+def built(name):
+    """A path for something that the tests build."""
     folder = os.path.join(ROOT, "target", "tests")
     os.makedirs(folder, exist_ok=True)
-    shared = os.path.join(folder, "libhost.so")
-    words = ["gcc", "-shared", "-o", shared, "-Wl,--whole-archive", archive(), "-Wl,--no-whole-archive"]
+    return os.path.join(folder, name)
+
+
+def library(name):
+    """The archive as a shared object, loaded."""
+    shared = built("lib%s.so" % name)
+    words = ["gcc", "-shared", "-o", shared, "-Wl,--whole-archive", archive(name), "-Wl,--no-whole-archive"]
     subprocess.run(words, check=True)
     return ctypes.CDLL(shared)
+
+
+def c_program_passes(name):
+    """Builds tests/NAME.c over the archive of the crate NAME and runs it, under valgrind where it is there."""
+    program, source = built(name), os.path.join(ROOT, "tests", name + ".c")
+    words = ["gcc", "-std=c11", "-Wall", "-Wextra", "-Werror", "-g", "-I", os.path.join(ROOT, "include")]
+    subprocess.run(words + ["-o", program, source, archive(name)], check=True)
+    checked = ["valgrind", "-q", "--error-exitcode=9", "--leak-check=full", "--main-stacksize=8388608"]
+    done = subprocess.run((checked if shutil.which("valgrind") else []) + [program])
+    return done.returncode == 0
 
 
 class Report:

@@ -282,8 +282,9 @@ pub struct Outcome {
     pub instance: usize,
 }
 
-// The same on a table that the caller keeps: it stores the operation's start and instance there, and nothing with a refusal.
-pub fn place_into(
+// The same on a table that the caller keeps, in Rattle or in C: it stores the operation's start and instance there, and nothing with a refusal.
+#[no_mangle]
+pub extern "C" fn leastplan_place_into(
     table: &mut Table,
     sheet: Sheet,
     interval: usize,

@@ -1,4 +1,4 @@
--- `placing::place_into` meets its contract: a walk of its MIR, by hand. The borrow is opened, the table is copied out and passed to `place`, the table
+-- `placing::leastplan_place_into` meets its contract: a walk of its MIR, by hand. The borrow is opened, the table is copied out and passed to `place`, the table
 -- that `place` returned is stored, and the borrow is closed at it. All that the walk knows of `place` is that it meets its contract.
 -- The MIR: _6 = *_1; _7 = place(_2, _3, _6, _4, _5); *_1 = _7.2; _0 = aggregate [_7.0, _7.1]; return.
 -- Assumes nothing.
@@ -57,10 +57,10 @@ use Rattle.placing.proofs.place as core
 use Rattle.placing.proofs.place.Symbol as core-def
 use Rattle.placing.proofs.place.Symbol.{name as #placing·place}
 use Rattle.placing.proofs.place.Met as core-thm
-use Rattle.placing.proofs.place_into.Key.{name as #placing·place-into}
-use Rattle.placing.proofs.place_into as f
-use Rattle.placing.proofs.place_into.Statement as stated
-use Rattle.placing.proofs.place_into.Code as code
+use Rattle.placing.proofs.leastplan_place_into.Key.{name as #placing·leastplan-place-into}
+use Rattle.placing.proofs.leastplan_place_into as f
+use Rattle.placing.proofs.leastplan_place_into.Statement as stated
+use Rattle.placing.proofs.leastplan_place_into.Code as code
 
 abbrev stayed : Stays (f.ended .signature .params) (f.ended .kept)
 stayed = (stay-ref (0 ∷ []) tt (plain (λ _. T.the-row)), (stay-none (λ _. S.the-row) yes, (stay-none (λ _. usize) yes, (stay-none (λ _. usize) yes, (stay-none (λ _. usize) yes, tt)))))
@@ -165,20 +165,20 @@ module _ {M : Type 1} (𝓤 : URA M) (H : Heap 𝓤) (A : Atoms 𝓤) (W : Given
         keep ! (0 ∷ 1 ∷ 2 ∷ []) $ by ! (exits r e (answer-is r w is))))))))))))))))
 
 module _ {M : Type 1} (𝓤 : URA M) (H : Heap 𝓤) (A : Atoms 𝓤) (W : Given 𝓤 H A) (at-mem : Memory → SProp 𝓤) (run : Routine → Fun 𝓤) where
-  place-into-walks : (C : Calls 𝓤 H) (Λ : Loops 𝓤 H) → FmC 𝓤 H (W .laws) C → Triple 𝓤 (C #placing·place) (Core 𝓤 H A at-mem run) → Walks 𝓤 H A f.ended stayed (WpFn 𝓤 H C Λ code.function) (f.clauses 𝓤 H A at-mem run)
-  place-into-walks C Λ fm known = walked 𝓤 H A f.ended stayed (f.clauses 𝓤 H A at-mem run) (WpFn 𝓤 H C Λ code.function) (λ κs. (ptr-vals, (LL.vals S.the-type S′.the-laws, (uint-vals w64, (uint-vals w64, (uint-vals w64, tt)))))) (λ κs. (mut-tells (named 0) (κs .0) T.the-row, (LL.tells S.the-type S′.the-laws, (uint-tells w64, (uint-tells w64, (uint-tells w64, tt))))))
+  leastplan-place-into-walks : (C : Calls 𝓤 H) (Λ : Loops 𝓤 H) → FmC 𝓤 H (W .laws) C → Triple 𝓤 (C #placing·place) (Core 𝓤 H A at-mem run) → Walks 𝓤 H A f.ended stayed (WpFn 𝓤 H C Λ code.function) (f.clauses 𝓤 H A at-mem run)
+  leastplan-place-into-walks C Λ fm known = walked 𝓤 H A f.ended stayed (f.clauses 𝓤 H A at-mem run) (WpFn 𝓤 H C Λ code.function) (λ κs. (ptr-vals, (LL.vals S.the-type S′.the-laws, (uint-vals w64, (uint-vals w64, (uint-vals w64, tt)))))) (λ κs. (mut-tells (named 0) (κs .0) T.the-row, (LL.tells S.the-type S′.the-laws, (uint-tells w64, (uint-tells w64, (uint-tells w64, tt))))))
       (λ κs qs bounds a _ are. via 𝓤 _ (fst∗ 𝓤 _ (emp 𝓤)) (walk 𝓤 H A W at-mem run (κs .0) (qs .0) (a .0 .ptr .0) (a .0 .ptr .1) (a .0 .name) (a .0 .now) (a .1 .0) (a .1 .1 .0) (a .1 .1 .1 .0) (a .1 .1 .1 .1 .0) (are .1 .0) (are .1 .1 .0 .1) (are .1 .1 .1 .0 .1) (are .1 .1 .1 .1 .0 .1) C Λ fm known))
 
-place-into-meets : {M : Type 1} (𝓤 : URA M) (H : Heap 𝓤) (A : Atoms 𝓤) → Given 𝓤 H A → (at-mem : Memory → SProp 𝓤) (run : Routine → Fun 𝓤) (𝓣 : Tables 𝓤 H) → Triple 𝓤 (𝓣 .C #placing·place) (Core 𝓤 H A at-mem run)
+leastplan-place-into-meets : {M : Type 1} (𝓤 : URA M) (H : Heap 𝓤) (A : Atoms 𝓤) → Given 𝓤 H A → (at-mem : Memory → SProp 𝓤) (run : Routine → Fun 𝓤) (𝓣 : Tables 𝓤 H) → Triple 𝓤 (𝓣 .C #placing·place) (Core 𝓤 H A at-mem run)
     → Meets 𝓤 H A f.signature (WpFn 𝓤 H (𝓣 .C) (𝓣 .Λ) code.function) (f.spec 𝓤 H A at-mem run)
-place-into-meets 𝓤 H A W at-mem run 𝓣 known =
+leastplan-place-into-meets 𝓤 H A W at-mem run 𝓣 known =
     walk-meets 𝓤 H A f.ended stayed W (goes-ref 𝓤 H A W 1 0 tt (plain (λ _. T.the-row)), (goes-none 𝓤 H A W 1 (λ _. S.the-row) yes (λ κs x f. refl), (goes-none 𝓤 H A W 1 (λ _. usize) yes (λ κs x f. refl), (goes-none 𝓤 H A W 1 (λ _. usize) yes (λ κs x f. refl), (goes-none 𝓤 H A W 1 (λ _. usize) yes (λ κs x f. refl), tt))))) (f.clauses 𝓤 H A at-mem run)
-    (WpFn 𝓤 H (𝓣 .C) (𝓣 .Λ) code.function) (WpFn-mono 𝓤 H (W .laws) 𝓣 code.function) (place-into-walks 𝓤 H A W at-mem run (𝓣 .C) (𝓣 .Λ) (fmOf 𝓤 H (W .laws) 𝓣) known)
+    (WpFn 𝓤 H (𝓣 .C) (𝓣 .Λ) code.function) (WpFn-mono 𝓤 H (W .laws) 𝓣 code.function) (leastplan-place-into-walks 𝓤 H A W at-mem run (𝓣 .C) (𝓣 .Λ) (fmOf 𝓤 H (W .laws) 𝓣) known)
 
-pub place-into-spec : {M : Type 1} → stated.statement M
+pub leastplan-place-into-spec : {M : Type 1} → stated.statement M
 unfolding code.routine tablesOf
-place-into-spec 𝓤 H 𝓜 𝓖 𝓡 =
+leastplan-place-into-spec 𝓤 H 𝓜 𝓖 𝓡 =
     entered 𝓤 H (tripleOf 𝓤 H (𝓖 .A) f.signature (f.spec 𝓤 H (𝓖 .A) (𝓜 .mem) (𝓡 .run)))
-    (tables 𝓤 H 𝓜 𝓡 code.env .C) (tables 𝓤 H 𝓜 𝓡 code.env .Λ) #placing·place-into code.function (code.unfolded 𝓤 H 𝓜 𝓡)
-    (place-into-meets 𝓤 H (𝓖 .A) (givenOf 𝓤 H 𝓜 𝓖) (𝓜 .mem) (𝓡 .run) (tablesOf 𝓤 H 𝓜 (tables 𝓤 H 𝓜 𝓡 code.env))
+    (tables 𝓤 H 𝓜 𝓡 code.env .C) (tables 𝓤 H 𝓜 𝓡 code.env .Λ) #placing·leastplan-place-into code.function (code.unfolded 𝓤 H 𝓜 𝓡)
+    (leastplan-place-into-meets 𝓤 H (𝓖 .A) (givenOf 𝓤 H 𝓜 𝓖) (𝓜 .mem) (𝓡 .run) (tablesOf 𝓤 H 𝓜 (tables 𝓤 H 𝓜 𝓡 code.env))
     (cited 𝓤 H (Core 𝓤 H (𝓖 .A) (𝓜 .mem) (𝓡 .run)) 𝓜 𝓡 code.env #placing·place core-def.routine code.calls-placing·place (core-thm.met 𝓤 H 𝓜 𝓖 𝓡)))
