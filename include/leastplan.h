@@ -2,6 +2,8 @@
 
    Each call takes the bytes of a loop sheet and their count; a null pointer with count 0 is an empty sheet (2).
    Each returns an answer and one number, which is 0 with every answer but 0. Nothing is kept between calls.
+   Sheet and buffer must not overlap. Calls take stack: about 0.4 MB was the most measured, 0.8 MB is the most by the
+   shape of the code (docs/PERFORMANCE.md); a thread with less may overflow its stack.
 
    Answers of every call, put in this order:
      0  the number is what was asked for

@@ -1,8 +1,8 @@
 #!/usr/bin/env python3
-"""Makes the stored inputs and outputs of sheet_cases, plan_cases and placing_cases, from the reference.
+"""Makes the stored inputs and outputs of leastplan, sheet_cases, plan_cases and placing_cases, from the reference.
 
-An input is a run of pieces, each a line bytes=N and N bytes: a sheet, and for placing_cases a sheet and a script by turns.
-The outputs have a line -- before the answer to each sheet. As a program:  stored.py   writes crates/*_cases/stdin and stdout anew.
+That of leastplan is case A of document 01. The others are runs of pieces, each a line bytes=N and N bytes: a sheet, and for placing_cases
+a sheet and a script by turns; the outputs have a line -- before the answer to each sheet. As a program:  stored.py   writes the files anew.
 """
 
 import os
@@ -260,8 +260,10 @@ def plan_pieces():
 
 def stored_files():
     """(path, content) of each stored file."""
-    reads, plans = reader_pieces(), plan_pieces()
+    reads, plans, case_a = reader_pieces(), plan_pieces(), next(paper_cases())
     pieces, answers = placings.stored()
+    yield "crates/leastplan/stdin", case_a
+    yield "crates/leastplan/stdout", ref.leastplan(case_a)
     yield "crates/sheet_cases/stdin", framed(reads)
     yield "crates/sheet_cases/stdout", marked(read_answer(p) for p in reads)
     yield "crates/placing_cases/stdin", framed(pieces)
