@@ -1,36 +1,40 @@
 -- The parts of a line, as the code meets them at places of the bytes s: a key, a number and the byte that ends it, numbers in an array.
 -- Assumes nothing.
 use mathlib.Core.Path.{_≡_, refl, sym, ap, subst, _∙_}
+use mathlib.Core.Logic.{inl, inr}
 use mathlib.Core.Bool.{Bool, true, false}
 use mathlib.Core.List.{List, [], _∷_, _++_}
 use Prim.Native.Nat.{ℕ, zero, suc, _+_, _-_, _≤_, _<_}
 use native.Mathlib.Omega.{arith}
 use native.Mathlib.Numerals.{add-one}
 use lib.IntN.{ℤ, pos, natAbs}
-use lib.Dec.{eqb}
+use lib.Dec.{eqb, ltb}
 use lib.ListN.{length, drop, take, getD, set, replicate, drop-of-length-le, length-set}
 use lib.Seq.{take-suc-set, length-take-le}
-use borrow.Author.Tests.{eq-eqb, ne-eqb, le-leb, lt-leb}
+use borrow.Author.Tests.{eq-eqb, ne-eqb, le-leb, lt-leb, lt-ltb}
+use types.Run.{OneOf}
+use denote.Enum.Declared.{tagOf}
 use Rattle.laws.specs.Store.{store}
 use Rattle.laws.specs.Z.{true-false}
 use Rattle.text.specs.Text.{endOf}
-use Rattle.scan.specs.Number.{Signed, int, none, number, signedNumber, wholeOf}
+use Rattle.scan.specs.Number.{Signed, int, none, classOf, number, signedNumber, wholeOf}
 use Rattle.scan.specs.Line.{Rest, after, missing, stripped, fieldOf, Fields, fields, bad, fieldsFrom, lineOf, dueLine, seenPlace, withinPlace, zeros, LineFits}
 use Rattle.scan.specs.declared.Line.{Line}
 use Rattle.scan.specs.declared.Place.{Place}
 use Rattle.scan.specs.declared.Place.the-variants.{After, Missing}
+use Rattle.scan.proofs.Class as T
 use Rattle.scan.proofs.Digits.{front}
 
 -- ---- a number and the byte that ends it
 
 module _ (s : List ℕ) (bs : List ℕ) (end : ℕ) (m : Bool) (v : ℤ) (p : ℕ) (e : wholeOf m bs ≡ int v (drop p s)) where
-  pub field-got : p < length s → getD s p 0 ≡ end → fieldOf end m bs ≡ int v (drop (p + 1) s)
+  pub field-got : p < length s → eqb (getD s p 0) end ≡ true → fieldOf end m bs ≡ int v (drop (p + 1) s)
   unfolding fieldOf
-  field-got h g = rw (e, front s p h, eq-eqb _ _ g)
+  field-got h g = rw (e, front s p h, g)
 
-  pub field-other : p < length s → (getD s p 0 ≡ end → ⊥) → fieldOf end m bs ≡ none
+  pub field-other : p < length s → eqb (getD s p 0) end ≡ false → fieldOf end m bs ≡ none
   unfolding fieldOf
-  field-other h g = rw (e, front s p h, ne-eqb _ _ g)
+  field-other h g = rw (e, front s p h, g)
 
   pub field-short : length s ≤ p → fieldOf end m bs ≡ none
   unfolding fieldOf
@@ -40,12 +44,30 @@ pub field-none : (bs : List ℕ) (end : ℕ) (m : Bool) → wholeOf m bs ≡ non
 unfolding fieldOf
 field-none bs end m e = rw e
 
-pub end-last : (m : ℕ) → m ≡ 0 → endOf m ≡ 10
-end-last m e = ap endOf e
+-- ---- the byte that ends a number which m others follow
 
-pub end-more : (m : ℕ) → 0 < m → endOf m ≡ 44
-end-more zero h = absurd (omega arith)
-end-more (suc m) h = refl
+-- a comma ends it where m is not 0
+pub comma-ends : (b m : ℕ) → b ≡ 44 → ltb 0 m ≡ eqb b (endOf m)
+comma-ends b zero e = sym (ne-eqb b 10 (λ n. omega arith))
+comma-ends b (suc m) e = lt-ltb 0 (suc m) (omega arith) ∙ sym (eq-eqb b 44 e)
+
+-- a line feed ends it where m is 0
+pub feed-ends : (b m : ℕ) → b ≡ 10 → eqb m 0 ≡ eqb b (endOf m)
+feed-ends b zero e = sym (eq-eqb b 10 e)
+feed-ends b (suc m) e = ne-eqb (suc m) 0 (λ n. omega arith) ∙ sym (ne-eqb b 44 (λ n. omega arith))
+
+-- no byte of another class does
+due-class : (m : ℕ) → OneOf (0 ∷ 1 ∷ 4 ∷ []) (tagOf T.the-type (classOf (endOf m))) → ⊥
+unfolding classOf
+due-class zero (inl e) = omega arith
+due-class zero (inr (inl e)) = omega arith
+due-class zero (inr (inr e)) = omega arith
+due-class (suc m) (inl e) = omega arith
+due-class (suc m) (inr (inl e)) = omega arith
+due-class (suc m) (inr (inr e)) = omega arith
+
+pub other-ends : (b m : ℕ) → OneOf (0 ∷ 1 ∷ 4 ∷ []) (tagOf T.the-type (classOf b)) → false ≡ eqb b (endOf m)
+other-ends b m o = sym (ne-eqb b (endOf m) (λ q. due-class m (rw q at o)))
 
 -- ---- one byte of a key
 

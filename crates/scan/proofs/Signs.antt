@@ -12,10 +12,13 @@ use mir.Syntax.{w32}
 use mir.Val.{SFits, toZ, ofZ}
 use mir.Facts.{toZ-ofZ}
 use borrow.Author.Tests.{eq-eqb, ne-eqb}
+use types.Run.{OneOf}
+use denote.Enum.Declared.{tagOf}
 use Rattle.laws.specs.Z.{true-false, four-digits}
-use Rattle.scan.specs.Number.{value, malformed, number, Signed, int, none, signedOf, signedNumber, wholeOf, seenWhole, withinWhole}
+use Rattle.scan.specs.Number.{value, malformed, classOf, number, Signed, int, none, signedOf, signedNumber, wholeOf, seenWhole, withinWhole}
 use Rattle.scan.specs.declared.Whole.{Whole}
 use Rattle.scan.specs.declared.Whole.the-variants.{Int, None}
+use Rattle.scan.proofs.Class as T
 use Rattle.scan.proofs.Digits.{front}
 
 -- ---- at most four digits: the number is an i32, so its bits read back as the number
@@ -63,26 +66,33 @@ signed-none true bs e = rw e
 
 -- ---- a number after a minus where one may stand
 
+pub whole-off : (m : Bool) (bs : List ℕ) → m ≡ false → wholeOf m bs ≡ signedNumber false bs
+unfolding wholeOf
+whole-off false bs e = refl
+whole-off true bs e = true-false e
+
+no-minus : OneOf (1 ∷ 2 ∷ 3 ∷ 4 ∷ []) (tagOf T.the-type (classOf 45)) → ⊥
+unfolding classOf
+no-minus (inl e) = omega arith
+no-minus (inr (inl e)) = omega arith
+no-minus (inr (inr (inl e))) = omega arith
+no-minus (inr (inr (inr e))) = omega arith
+
 module _ (s : List ℕ) (i : ℕ) where
   pub whole-minus : (m : Bool) → m ≡ true → i < length s → getD s i 0 ≡ 45 → wholeOf m (drop i s) ≡ signedNumber true (drop (i + 1) s)
   unfolding wholeOf
   whole-minus false e h b = true-false (sym e)
   whole-minus true e h b = rw (front s i h, eq-eqb (getD s i 0) 45 b)
 
-  pub whole-off : (m : Bool) → m ≡ false → wholeOf m (drop i s) ≡ signedNumber false (drop i s)
-  unfolding wholeOf
-  whole-off false e = refl
-  whole-off true e = true-false e
-
-  pub whole-end : (m : Bool) → length s ≤ i → wholeOf m (drop i s) ≡ signedNumber false (drop i s)
-  unfolding wholeOf
-  whole-end false h = refl
+  pub whole-end : (m : Bool) → length s ≤ i → wholeOf m (drop i s) ≡ none
+  unfolding wholeOf signedNumber number
+  whole-end false h = rw (drop-of-length-le s h)
   whole-end true h = rw (drop-of-length-le s h)
 
-  pub whole-plain : (m : Bool) → i < length s → (getD s i 0 ≡ 45 → ⊥) → wholeOf m (drop i s) ≡ signedNumber false (drop i s)
+  pub whole-plain : (m : Bool) → i < length s → OneOf (1 ∷ 2 ∷ 3 ∷ 4 ∷ []) (tagOf T.the-type (classOf (getD s i 0))) → wholeOf m (drop i s) ≡ signedNumber false (drop i s)
   unfolding wholeOf
-  whole-plain false h b = refl
-  whole-plain true h b = rw (front s i h, ne-eqb (getD s i 0) 45 b)
+  whole-plain false h o = refl
+  whole-plain true h o = rw (front s i h, ne-eqb (getD s i 0) 45 (λ e. no-minus (rw e at o)))
 
 -- ---- a result that is known at its variant
 

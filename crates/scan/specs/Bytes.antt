@@ -1,11 +1,11 @@
--- Which bytes are digits, both ways round.
+-- Which byte is a minus, a digit, a comma or a line feed, both ways round.
 -- Assumes nothing.
-use mathlib.Core.Path.{_≡_, refl, sym, ap, _∙_}
-use mathlib.Core.Bool.{Bool, true, false, cond}
+use mathlib.Core.Path.{_≡_, refl, ap, subst, _∙_}
+use mathlib.Core.Bool.{Bool, true, false}
 use Prim.Native.Nat.{ℕ, _+_, _-_, _≤_, _<_}
 use native.Mathlib.Omega.{arith}
 use lib.Dec.{eqb, leb}
-use borrow.Author.Tests.{eq-eqb, ne-eqb, le-leb, lt-leb, eqb-true, eqb-false, leb-true, leb-false}
+use borrow.Author.Tests.{ne-eqb, le-leb, lt-leb, eqb-true, leb-true}
 use Rattle.scan.specs.Number.{classOf}
 use Rattle.scan.specs.declared.Class.{Class}
 use Rattle.scan.specs.declared.Class.the-variants.{Minus, Digit, Comma, LineFeed, Other}
@@ -31,23 +31,27 @@ high-class b hi = simp (le-leb 48 b (omega arith), lt-leb b 57 hi)
 pub class-digit : (d : ℕ) → d < 10 → classOf (48 + d) ≡ Digit d
 class-digit d h = digit-class (48 + d) (omega arith) (omega arith) ∙ ap Digit (omega arith)
 
--- below the digits' bytes there is no digit
-low-none : (m k f : Bool) (d : ℕ) → cond m Minus (cond k Comma (cond f LineFeed Other)) ≡ Digit d → ⊥
-low-none true k f d e = let z : _≡_ {A = ℕ} 0 1 = cc in omega arith
-low-none false true f d e = let z : _≡_ {A = ℕ} 0 1 = cc in omega arith
-low-none false false true d e = let z : _≡_ {A = ℕ} 0 1 = cc in omega arith
-low-none false false false d e = let z : _≡_ {A = ℕ} 0 1 = cc in omega arith
+-- the bytes of a class
+abbrev pub OfClass : Class → ℕ → Type 0
+OfClass Minus b = b ≡ 45
+OfClass (Digit d) b = (b ≡ 48 + d) × (d < 10)
+OfClass Comma b = b ≡ 44
+OfClass LineFeed b = b ≡ 10
+OfClass Other b = Unit {0}
 
--- only a digit's byte is a digit
-pub digit-byte : (b d : ℕ) → classOf b ≡ Digit d → (b ≡ 48 + d) × (d < 10)
+pub class-byte : (b : ℕ) → OfClass (classOf b) b
 unfolding classOf
-digit-byte b d e =
+class-byte b =
     by-test (leb 48 b)
     (λ lo. by-test (leb b 57)
-    (λ hi.
-    let l : 48 ≤ b = leb-true 48 b lo in
-    let h : b ≤ 57 = leb-true b 57 hi in
-    let q : b - 48 ≡ d = (cc (digit-class b l h)) in
-    (omega arith, omega arith))
-    (λ hi. let z : _≡_ {A = ℕ} 0 1 = cc (high-class b (leb-false b 57 hi)) in omega arith))
-    (λ lo. absurd (low-none (eqb b 45) (eqb b 44) (eqb b 10) d (simp lo at e)))
+    (λ hi. let l : 48 ≤ b = leb-true 48 b lo in let h : b ≤ 57 = leb-true b 57 hi in rw (lo, hi) (omega arith, omega arith))
+    (λ hi. rw (lo, hi) tt))
+    (λ lo. by-test (eqb b 45)
+    (λ m. rw (lo, m) (eqb-true b 45 m))
+    (λ m. by-test (eqb b 44)
+    (λ k. rw (lo, m, k) (eqb-true b 44 k))
+    (λ k. by-test (eqb b 10) (λ f. rw (lo, m, k, f) (eqb-true b 10 f)) (λ f. rw (lo, m, k, f) tt))))
+
+-- the byte of a class that is known; so only a digit's byte is a digit
+pub byte-of : (b : ℕ) {k : Class} → classOf b ≡ k → OfClass k b
+byte-of b e = subst (λ k. OfClass k b) e (class-byte b)

@@ -13,7 +13,7 @@ use borrow.Author.Tests.{ne-eqb, lt-ltb, le-ltb, ltb-true, ltb-false, eqb-false}
 use Rattle.text.specs.Text.{tens, digits}
 use Rattle.text.specs.Decimal.{tens-length}
 use Rattle.scan.specs.Number.{Num, value, malformed, classOf, digitOr, moreDigits, number}
-use Rattle.scan.specs.Bytes.{by-test, class-digit, digit-byte}
+use Rattle.scan.specs.Bytes.{by-test, class-digit, byte-of}
 use Rattle.scan.specs.declared.Class.{Class}
 use Rattle.scan.specs.declared.Class.the-variants.{Minus, Digit, Comma, LineFeed, Other}
 
@@ -140,7 +140,7 @@ at-byte : (k : Class) (v b : ℕ) (bs : List ℕ) (n : ℕ) (rest : List ℕ) �
     → moreDigits v (b ∷ bs) ≡ value n rest → Canonical (digits v ++ (b ∷ bs)) n rest
 unfolding moreDigits
 at-byte (Digit d) v b bs n rest k hv ih e =
-    let db = digit-byte b d k in
+    let db = byte-of b k in
     by-test (eqb v 0)
     (λ t. let z : _≡_ {A = Num} malformed (value n rest) = simp (k, t) at e in absurd (no-value z))
     (λ t. by-test (ltb 999 v)
@@ -167,7 +167,7 @@ canonical-more v (b ∷ bs) n rest h e = at-byte (classOf b) v b bs n rest refl 
 first-byte : (k : Class) (b : ℕ) (bs : List ℕ) (n : ℕ) (rest : List ℕ) → classOf b ≡ k → number (b ∷ bs) ≡ value n rest → Canonical (b ∷ bs) n rest
 unfolding number
 first-byte (Digit d) b bs n rest k e =
-    let db = digit-byte b d k in
+    let db = byte-of b k in
     let r : Canonical (digits d ++ bs) n rest = canonical-more d bs n rest (omega arith) (simp k at e) in
     record { text = ap (λ (x : ℕ). x ∷ bs) (db .0) ∙ ap (λ (l : List ℕ). l ++ bs) (sym (one-digit 8 d (db .1))) ∙ r .text; small = r .small; ends = r .ends }
 first-byte Minus b bs n rest k e = absurd (no-value (simp k at e))

@@ -2,6 +2,7 @@
 ghost use mathlib.Core.Path.{_≡_};
 ghost use mathlib.Core.List.{[]};
 ghost use Prim.Native.Nat.{_+_, _-_, _≤_, _<_};
+ghost use lib.Dec.{eqb};
 ghost use lib.ListN.{length, drop};
 ghost use Rattle.scan.specs.Number.{classOf, number, moreDigits, seen, within, signedOf, signedNumber, wholeOf, seenWhole, withinWhole};
 ghost use Rattle.scan.specs.Line.{stripped, seenPlace, withinPlace, fieldOf, fieldsFrom, dueLine, seenLine, LineFits};
@@ -122,25 +123,39 @@ fn read_whole(s: &[u8], at: usize, minus: bool) -> Whole
     ensures { λ r. ⌜ seenWhole (now (s .entry)) r ≡ wholeOf minus (drop at (now (s .entry))) ⌝ }
     ensures { λ r. ⌜ withinWhole (now (s .entry)) r ⌝ }
 {
-    if minus {
-        if at < s.len() {
-            if s[at] == b'-' {
-                return read_signed(s, at + 1, true);
-            }
-        }
+    if !minus {
+        return read_signed(s, at, false);
     }
-    read_signed(s, at, false)
+    if s.len() <= at {
+        return Whole::None;
+    }
+    let b = s[at];
+    match classify(b) {
+        Class::Minus => read_signed(s, at + 1, true),
+        _ => read_signed(s, at, false),
+    }
 }
 
-// A number and the byte that ends it.
-fn read_field(s: &[u8], at: usize, end: u8, minus: bool) -> Whole
-    ensures { λ r. ⌜ seenWhole (now (s .entry)) r ≡ fieldOf end minus (drop at (now (s .entry))) ⌝ }
+// Whether b ends a number that has `more` numbers after it in its line: a comma, or a line feed after the last.
+fn ends_number(b: u8, more: usize) -> bool
+    ensures { λ r. ⌜ r ≡ eqb b (endOf more) ⌝ }
+{
+    match classify(b) {
+        Class::Comma => 0 < more,
+        Class::LineFeed => more == 0,
+        _ => false,
+    }
+}
+
+// A number and the byte that ends it, with `more` numbers after it in its line.
+fn read_field(s: &[u8], at: usize, more: usize, minus: bool) -> Whole
+    ensures { λ r. ⌜ seenWhole (now (s .entry)) r ≡ fieldOf (endOf more) minus (drop at (now (s .entry))) ⌝ }
     ensures { λ r. ⌜ withinWhole (now (s .entry)) r ⌝ }
 {
     match read_whole(s, at, minus) {
         Whole::Int(v, next) => {
             if next < s.len() {
-                if s[next] == end {
+                if ends_number(s[next], more) {
                     return Whole::Int(v, next + 1);
                 }
             }
@@ -176,14 +191,6 @@ fn after_key(s: &[u8], at: usize, key: &[u8]) -> Place
     Place::After(p)
 }
 
-// The byte that ends the number at i of count.
-fn end_byte(i: usize, count: usize) -> u8
-    requires { ⌜ i < count ⌝ }
-    ensures { λ r. ⌜ r ≡ endOf (count - (i + 1)) ⌝ }
-{
-    if i + 1 < count { b',' } else { b'\n' }
-}
-
 // A line's numbers and the place after its line feed. Values past the line's numbers are 0; of a line that is not ok everything is 0.
 pub struct Line {
     pub ok: bool,
@@ -201,7 +208,7 @@ fn read_numbers(s: &[u8], start: usize, count: usize, minus: usize) -> Line
     let mut p = start;
     let mut i = 0;
     while i < count {
-        match read_field(s, p, end_byte(i, count), i == minus) {
+        match read_field(s, p, count - (i + 1), i == minus) {
             Whole::Int(v, next) => {
                 values[i] = v;
                 p = next;

@@ -6,7 +6,7 @@ use mathlib.Core.Path.{_≡_, refl, sym, _∙_}
 use native.Mathlib.Omega.{arith}
 use lib.ListN.{length, drop}
 use Rattle.scan.specs.Number.{moreDigits, seen, within}
-use Rattle.scan.specs.Bytes.{digit-byte}
+use Rattle.scan.specs.Bytes.{byte-of}
 use Rattle.scan.proofs.Digits.{digit-zero, digit-full, digit-more, digit-stop, digit-end}
 use Rattle.scan.proofs.more_digits.Statement.{statement}
 use Rattle.scan.proofs.more_digits.Tie as tie
@@ -52,12 +52,12 @@ mul-v c = omega arith
 cast-v : tie.Need-cast-v Inv-loop μ-loop
 cast-v c =
     let d = c .before .before .before in
-    omega (arith, digit-byte _ _ (sym (d .before .before .classify .ensures) ∙ d .d .given .1))
+    omega (arith, byte-of _ (sym (d .before .before .classify .ensures) ∙ d .d .given .1))
 
 add-v : tie.Need-add-v Inv-loop μ-loop
 add-v c =
     let d = c .before .before .before in
-    omega (arith, digit-byte _ _ (sym (d .before .before .classify .ensures) ∙ d .d .given .1))
+    omega (arith, byte-of _ (sym (d .before .before .classify .ensures) ∙ d .d .given .1))
 
 returns-3 : tie.Need-returns-3 Inv-loop μ-loop
 unfolding seen within
@@ -78,7 +78,7 @@ loop-again c =
     let k = d .before .before in
     let l = k .before .before .before in (
       omega arith,
-      omega (arith, digit-byte _ _ (sym (k .classify .ensures) ∙ d .d .given .1)),
+      omega (arith, byte-of _ (sym (k .classify .ensures) ∙ d .d .given .1)),
       sym (digit-more _ _ (k .before .before .loop-test .taken) _ _ _ (k .classify .ensures) (d .d .given .1) (c .before .if1 .left) (c .if2 .left)) ∙ l .loop .inv .2,
     )
 

@@ -3,8 +3,6 @@
 use Rattle.scan.proofs.Signs.{small-bits, seen-int, seen-none, within-int}
 use mathlib.Core.Path.{sym, _∙_}
 use native.Mathlib.Omega.{arith}
-use mir.Syntax.{w32}
-use mir.Facts.{toZ-ofZ}
 use Rattle.scan.specs.Number.{seenWhole, withinWhole}
 use Rattle.scan.proofs.Fields.{field-got, field-other, field-short, field-none}
 use borrow.Author.Needs.{needs}
@@ -17,8 +15,11 @@ read-whole-requires c κs = search needs
 enum-known-v : tie.Need-enum-known-v
 enum-known-v c = search needs
 
-shared-slice-read-if2 : tie.Need-shared-slice-read-if2
-shared-slice-read-if2 c = search needs
+shared-slice-read-ends-number : tie.Need-shared-slice-read-ends-number
+shared-slice-read-ends-number c = search needs
+
+ends-number-requires : tie.Need-ends-number-requires
+ends-number-requires c κs = search needs
 
 add-t14 : tie.Need-add-t14
 add-t14 c = search needs
@@ -26,12 +27,13 @@ add-t14 c = search needs
 returns : tie.Need-returns
 unfolding seenWhole withinWhole
 returns c =
-    let g = c .before .before .before .before in
+    let e = c .before in
+    let g = e .before .before .before .before in
     let r = g .before .before in
     let w = within-int _ (r .read-whole .ensures .1) (g .v .given .1) in
     let z = small-bits (g .v .given .0 .0) (w .1) in
     rw z
-    (sym (field-got _ _ _ _ _ _ (seen-int _ (r .read-whole .ensures .0) (g .v .given .1)) (c .before .before .if1 .taken) (c .if2 .taken)), omega arith)
+    (sym (field-got _ _ _ _ _ _ (seen-int _ (r .read-whole .ensures .0) (g .v .given .1)) (e .before .before .if1 .taken) (sym (e .ends-number .ensures) ∙ c .if2 .taken)), omega arith)
 
 enum-told : tie.Need-enum-told
 enum-told c = search needs
@@ -39,9 +41,10 @@ enum-told c = search needs
 returns-2 : tie.Need-returns-2
 unfolding seenWhole withinWhole
 returns-2 c =
-    let g = c .before .before .before .before in
+    let e = c .before in
+    let g = e .before .before .before .before in
     let r = g .before .before in
-    (sym (field-other _ _ _ _ _ _ (seen-int _ (r .read-whole .ensures .0) (g .v .given .1)) (c .before .before .if1 .taken) (c .if2 .left)), tt)
+    (sym (field-other _ _ _ _ _ _ (seen-int _ (r .read-whole .ensures .0) (g .v .given .1)) (e .before .before .if1 .taken) (sym (e .ends-number .ensures) ∙ c .if2 .left)), tt)
 
 returns-3 : tie.Need-returns-3
 unfolding seenWhole withinWhole
@@ -62,7 +65,8 @@ read-field-spec =
     (tie.spec
     read-whole-requires
     enum-known-v
-    shared-slice-read-if2
+    shared-slice-read-ends-number
+    ends-number-requires
     add-t14
     returns
     enum-told

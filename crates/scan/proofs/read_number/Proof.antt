@@ -4,7 +4,7 @@ use borrow.Author.Needs.{needs}
 use mathlib.Core.Path.{sym, _∙_}
 use native.Mathlib.Omega.{arith}
 use Rattle.scan.specs.Number.{seen, within}
-use Rattle.scan.specs.Bytes.{digit-byte}
+use Rattle.scan.specs.Bytes.{byte-of}
 use Rattle.scan.proofs.Digits.{none-here, number-digit, number-other}
 use Rattle.scan.proofs.read_number.Statement.{statement}
 use Rattle.scan.proofs.read_number.Tie as tie
@@ -31,7 +31,7 @@ cast-more-digits c = search needs
 more-digits-requires : tie.Need-more-digits-requires
 more-digits-requires c κs =
     let k = c .before .before .before in
-    let b = digit-byte _ _ (sym (k .classify .ensures) ∙ c .before .d .given .1) in
+    let b = byte-of _ (sym (k .classify .ensures) ∙ c .before .d .given .1) in
     omega arith
 
 returns-2 : tie.Need-returns-2

@@ -22,8 +22,11 @@ abbrev μ-loop : tie.MeasureT-loop
 loop-holds : tie.Need-loop-holds Inv-loop μ-loop
 loop-holds c = (omega arith, omega arith, filled-none, rw (sub-zero _))
 
-end-byte-requires : tie.Need-end-byte-requires Inv-loop μ-loop
-end-byte-requires c κs = omega arith
+add-read-field : tie.Need-add-read-field Inv-loop μ-loop
+add-read-field c = omega arith
+
+sub-read-field : tie.Need-sub-read-field Inv-loop μ-loop
+sub-read-field c = omega arith
 
 read-field-requires : tie.Need-read-field-requires Inv-loop μ-loop
 read-field-requires c κs = tt
@@ -44,10 +47,10 @@ returns : tie.Need-returns Inv-loop μ-loop
 unfolding seenLine
 returns c =
     let f = c .before .before in
-    let l = f .before .before .before in
+    let l = f .before .before in
     let w = l .loop .inv .2 .whole in
     let e = seen-none _ (f .read-field .ensures .0) (c .enum-told .given .1) in
-    (sym (numbers-stop _ _ (l .loop .i) (l .loop .values) _ (f .before .before .loop-test .taken) (omega arith) (rw (f .before .end-byte .ensures) at e)) ∙ l .loop .inv .3, fits-none _ _)
+    (sym (numbers-stop _ _ (l .loop .i) (l .loop .values) _ (f .before .loop-test .taken) (omega arith) e) ∙ l .loop .inv .3, fits-none _ _)
 
 add-i : tie.Need-add-i Inv-loop μ-loop
 add-i c = omega arith
@@ -58,7 +61,7 @@ loop-less c = omega arith
 loop-again : tie.Need-loop-again Inv-loop μ-loop
 loop-again c =
     let f = c .before .before .before in
-    let l = f .before .before .before in
+    let l = f .before .before in
     let g = c .before .v .given in
     let n = l .loop .inv .2 .whole in
     let w = within-int _ (f .read-field .ensures .1) (g .1) in
@@ -67,7 +70,7 @@ loop-again c =
       omega arith,
       w .0,
       filled-more (l .loop .i) (l .loop .values) (g .0 .0) (omega arith) (l .loop .inv .2) (w .1),
-      numbers-more _ _ (l .loop .i) (l .loop .values) _ (f .before .before .loop-test .taken) (omega arith) (g .0 .0) _ (rw (f .before .end-byte .ensures) at e) ∙ l .loop .inv .3,
+      numbers-more _ _ (l .loop .i) (l .loop .values) _ (f .before .loop-test .taken) (omega arith) (g .0 .0) _ e ∙ l .loop .inv .3,
     )
 
 returns-2 : tie.Need-returns-2 Inv-loop μ-loop
@@ -84,7 +87,8 @@ read-numbers-spec =
     Inv-loop
     μ-loop
     loop-holds
-    end-byte-requires
+    add-read-field
+    sub-read-field
     read-field-requires
     enum-known-v
     mul-values
