@@ -2,15 +2,16 @@
 -- Assumes nothing.
 use mathlib.Core.Path.{_≡_, refl, sym, ap, _∙_}
 use mathlib.Core.List.{List, [], _∷_, _++_, append-assoc}
-use Prim.Native.Nat.{ℕ, zero, suc, _+_, _*_, _-_, _≤_, _<_}
+use Prim.Native.Nat.{ℕ, zero, suc, _+_, _*_, _-_, _≤_, _<_, min}
+use native.Mathlib.Nat.{zero-min, min-zero, suc-min-suc}
 use native.Mathlib.Omega.{arith}
 use native.Mathlib.Numerals.{add-one}
 use lib.IntN.{ℤ, pos}
-use lib.ListN.{length, drop, take, getD, length-append, length-drop, length-take, drop-of-length-le}
-use lib.Seq.{drop-cons, take-all, length-take-le, getD-take, take-append-le}
+use lib.ListN.{length, drop, take, getD, replicate, length-append, length-drop, length-take, drop-of-length-le}
+use lib.Seq.{drop-cons, take-all, length-take-le, getD-take}
 use Rattle.text.specs.declared.Line.{Line}
 use Rattle.text.specs.Text.{signedText, endOf, joined, lineText}
-use Rattle.text.specs.Line.{keyOf, textOf}
+use Rattle.text.specs.Line.{keyOf, textOf, lineOfFour}
 use Rattle.text.specs.Signed.{text-length}
 
 pub comma : (more : ℕ) → (more ≡ 0 → ⊥) → 44 ≡ endOf more
@@ -62,9 +63,23 @@ pub line-text : (key n : ℕ) (vs us : List ℤ) → take n vs ≡ us → textOf
 unfolding textOf
 line-text key n vs us e = ap (lineText (keyOf key)) e
 
--- the first of four values, and no more than four
-pub four-some : (n : ℕ) (us vs : List ℤ) → length us ≡ 4 → n ≤ 4 → take n (us ++ vs) ≡ take n us
-four-some n us vs e h = take-append-le n us vs (omega arith)
+-- ---- a line of four numbers
 
-pub four-all : (n : ℕ) (us vs : List ℤ) → length us ≡ 4 → 4 < n → take 4 (us ++ vs) ≡ take n us
-four-all n us vs e h = take-append-le 4 us vs (omega arith) ∙ take-all 4 us (omega arith) ∙ sym (take-all n us (omega arith))
+-- the first n of the numbers us
+first-of : (n : ℕ) (us vs : List ℤ) → take (min n (length us)) (us ++ vs) ≡ take n us
+first-of zero us vs = rw (zero-min (length us))
+first-of (suc n) [] vs = rw (min-zero (suc n))
+first-of (suc n) (u ∷ us) vs = rw (suc-min-suc n (length us)) (ap (λ (l : List ℤ). u ∷ l) (first-of n us vs))
+
+-- its text is that of the first n numbers
+four-text : (key n : ℕ) (a b c d : ℤ) → textOf (lineOfFour key n a b c d) ≡ lineText (keyOf key) (take n (a ∷ b ∷ c ∷ d ∷ []))
+unfolding lineOfFour
+four-text key n a b c d = line-text key (min n 4) _ _ (first-of n (a ∷ b ∷ c ∷ d ∷ []) (replicate 20 (pos 0)))
+
+pub of-four : (key n : ℕ) (a b c d : ℤ) (m : ℕ) → m ≡ min n 4 →
+    let l : Line = record { key = key; count = m; values = a ∷ b ∷ c ∷ d ∷ replicate 20 (pos 0) } in
+    (l ≡ lineOfFour key n a b c d) × (textOf l ≡ lineText (keyOf key) (take n (a ∷ b ∷ c ∷ d ∷ [])))
+unfolding lineOfFour
+of-four key n a b c d m e =
+    let q = ap {B = Line} (λ (k : ℕ). record { key = key; count = k; values = a ∷ b ∷ c ∷ d ∷ replicate 20 (pos 0) }) e in
+    (q, ap textOf q ∙ four-text key n a b c d)

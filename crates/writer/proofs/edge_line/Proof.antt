@@ -36,7 +36,7 @@ returns c =
     let b = c .before .before .before .number2 in
     let n = c .before .before .number3 in
     let z : toZ w32 (ofZ w32 (e .delay)) ≡ e .delay = kept (small (le-show (omega (arith, le-read (d .low)))) (le-show (omega (arith, le-read (d .high))))) in
-    c .line-of .ensures
+    c .line-of .ensures .1
     ∙ ap (λ (x : ℤ). lineText edgeKey (x ∷ toZ w32 (ofZ w32 (b .result)) ∷ toZ w32 (ofZ w32 (e .delay)) ∷ toZ w32 (ofZ w32 (n .result)) ∷ [])) (kept (fits32 (a .ok)) ∙ a .ensures)
     ∙ ap (λ (x : ℤ). lineText edgeKey (pos (e .from) ∷ x ∷ toZ w32 (ofZ w32 (e .delay)) ∷ toZ w32 (ofZ w32 (n .result)) ∷ [])) (kept (fits32 (b .ok)) ∙ b .ensures)
     ∙ ap (λ (x : ℤ). lineText edgeKey (pos (e .from) ∷ pos (e .to) ∷ x ∷ toZ w32 (ofZ w32 (n .result)) ∷ [])) z

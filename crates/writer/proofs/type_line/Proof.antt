@@ -27,7 +27,7 @@ unfolding keyOf
 returns c =
     let a = c .before .before .number in
     let b = c .before .number2 in
-    c .line-of .ensures ∙ ap₂ (λ (x y : ℤ). lineText typeKey (x ∷ y ∷ [])) (kept (fits32 (a .ok)) ∙ a .ensures) (kept (fits32 (b .ok)) ∙ b .ensures)
+    c .line-of .ensures .1 ∙ ap₂ (λ (x y : ℤ). lineText typeKey (x ∷ y ∷ [])) (kept (fits32 (a .ok)) ∙ a .ensures) (kept (fits32 (b .ok)) ∙ b .ensures)
 
 pub type-line-spec : {M : Type 1} → statement M
 type-line-spec =

@@ -25,7 +25,7 @@ unfolding keyOf
 returns c =
     let a = c .before .before .number in
     let b = c .before .number2 in
-    c .line-of .ensures ∙ ap₂ (λ (x y : ℤ). lineText atKey (x ∷ y ∷ [])) (kept (fits32 (a .ok)) ∙ a .ensures) (kept (fits32 (b .ok)) ∙ b .ensures)
+    c .line-of .ensures .1 ∙ ap₂ (λ (x y : ℤ). lineText atKey (x ∷ y ∷ [])) (kept (fits32 (a .ok)) ∙ a .ensures) (kept (fits32 (b .ok)) ∙ b .ensures)
 
 pub at-line-spec : {M : Type 1} → statement M
 at-line-spec =
