@@ -150,6 +150,10 @@ answer-bound n h =
     let b = one-bound (answerLine n .key) n h in
     omega arith
 
+-- the bytes of that line, whichever the answer is
+pub answer-short : {n r : ℕ} → n ≤ 999 → r ≡ length (linesText (answerLine n ∷ [])) → r ≤ 11
+answer-short {n} h e = let b = answer-bound n h in omega arith
+
 pub answer-text : (n : ℕ) → linesText (answerLine n ∷ []) ≡ lineText (answerLine n .key) (answerLine n .values)
 unfolding linesText
 answer-text n = append-nil (lineText (answerLine n .key) (answerLine n .values))

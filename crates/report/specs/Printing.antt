@@ -114,6 +114,11 @@ module _ {s : Sheet} {old out : List ℕ} {L at : ℕ} (p : Printing s old out L
             ∙ extend (linesText (p .lines)) (linesText ls) old at (p .place) ∙ ap (λ (x : List ℕ). over x old) (sym (lines-append (p .lines) ls)),
       )
 
+  -- the buffer keeps its length, whichever lines were written
+  pub more-size : (ls : List Line) {r : ℕ} {last : List ℕ} → at + r ≤ length old → r ≡ length (linesText ls)
+      → last ≡ over (linesText ls) (take (length out - at) (drop at out)) → length (take at out ++ (last ++ drop (length out - at) (drop at out))) ≡ length old
+  more-size ls h e f = let m = more-text ls (omega arith) e f in let k = m .0 in ap length (m .1) ∙ length-over (linesText (p .lines ++ ls)) old (omega arith)
+
   pub finish : (ls : List Line) {r : ℕ} {last : List ℕ} → Run s L ls → at + length (linesText ls) ≤ length old → r ≡ length (linesText ls)
       → last ≡ over (linesText ls) (take (length out - at) (drop at out))
       → Put (Run s 1) old (take at out ++ (last ++ drop (length out - at) (drop at out))) (at + r)

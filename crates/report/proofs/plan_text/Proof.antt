@@ -12,10 +12,10 @@ plan-at-requires : tie.Need-plan-at-requires
 plan-at-requires c κs = search needs
 
 returns : tie.Need-returns
-returns c = refusal (c .before .before .before .plan-at .ensures) (c .before .if1 .taken)
+returns c = refusal (c .before .before .before .plan-at .ensures) (λ z. omega (arith, c .before .if1 .taken))
 
 text-length-requires : tie.Need-text-length-requires
-text-length-requires c κs = plan-small (c .before .before .plan-at .ensures) (c .if1 .left)
+text-length-requires c κs = plan-small (c .before .before .plan-at .ensures) (omega (arith, c .if1 .left))
 
 returns-2 : tie.Need-returns-2
 returns-2 c =

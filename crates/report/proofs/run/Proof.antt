@@ -9,8 +9,8 @@ use Rattle.sheet.specs.Text.{linesText}
 use Rattle.sheet.specs.Facts.{cap-most}
 use Rattle.report.specs.Print.{answerLine, intervalLines, none, stops}
 use Rattle.report.specs.Small.{Small, small, edges-long}
-use Rattle.report.specs.Bounds.{any-bound, refusal-bound, answer-bound}
-use Rattle.report.specs.Printing.{Printing, start, same-size, finish, again, put-size}
+use Rattle.report.specs.Bounds.{any-bound, refusal-bound, answer-bound, answer-short}
+use Rattle.report.specs.Printing.{Printing, start, same-size, more-size, finish, again, put-size}
 use native.Mathlib.Omega.{arith}
 use borrow.Author.Needs.{needs}
 use Rattle.report.proofs.run.Statement.{statement}
@@ -152,16 +152,15 @@ put-answer-requires c κs =
 add-result : tie.Need-add-result Inv-loop μ-loop
 add-result c =
     let k = last (c .before .before .before .before) in
-    let b = answer-bound 7 (omega arith) in
-    let r = c .before .before .put-answer .ensures .0 in
+    let b = answer-short (omega arith) (c .before .before .put-answer .ensures .0) in
     omega (arith, c .before .before .before .before .before .before .before .good .0 .0)
 
 same-length-2 : tie.Need-same-length-2 Inv-loop μ-loop
 same-length-2 c =
     let k = last (c .before .before .before .before) in
-    let b = answer-bound 7 (omega arith) in
     let f = c .before .before .put-answer .ensures in
-    put-size (finish (c .before .before .before .before .before .loop .inv .3) (answerLine 7 ∷ []) (none (k .2)) (omega arith) (f .0) (f .1))
+    let b = answer-short (omega arith) (f .0) in
+    more-size (c .before .before .before .before .before .loop .inv .3) _ (omega arith) (f .0) (f .1)
 
 returns-2 : tie.Need-returns-2 Inv-loop μ-loop
 returns-2 c =

@@ -69,7 +69,11 @@ element-copy-out-at-line-2 c =
     omega arith
 
 at-line-requires : tie.Need-at-line-requires
-at-line-requires c κs = let s = c .before .before .before .before .before in (s .pre .0 .starts (s .args .i - 2), s .pre .0 .instances (s .args .i - 2))
+at-line-requires c κs =
+    let s = c .before .before .before .before .before in
+    let t = s .pre .0 .starts (s .args .i - 2) in
+    let u = s .pre .0 .instances (s .args .i - 2) in
+    (omega arith, omega arith)
 
 returns-4 : tie.Need-returns-4
 returns-4 c =
