@@ -158,6 +158,15 @@ def is_plan(sheet, interval, starts, units):
     )
 
 
+def order(n, first, second):
+    """The order of two plans (starts, instances) of n operations. What a list does not have counts as 0."""
+    for ours, theirs in zip(first, second):
+        for t, other in zip(ours[:n], theirs[:n]):
+            if t != other:
+                return "before" if t < other else "after"
+    return "equal"
+
+
 # ---- the first plan
 
 

@@ -1,12 +1,13 @@
 #!/usr/bin/env python3
-"""Makes the stored inputs and outputs of leastplan, sheet_cases, plan_cases and placing_cases, from the reference.
+"""Makes the stored inputs and outputs of leastplan, sheet_cases, plan_cases, placing_cases and order_cases, from the reference.
 
-That of leastplan is case A of document 01. The others are runs of pieces, each a line bytes=N and N bytes: a sheet, and for placing_cases
+That of leastplan is case A of document 01, that of order_cases has a case a line. The others are runs of pieces, each a line bytes=N and N bytes: a sheet, and for placing_cases
 a sheet and a script by turns; the outputs have a line -- before the answer to each sheet. As a program:  stored.py   writes the files anew.
 """
 
 import os
 
+import orders
 import placings
 import reference as ref
 import sheets
@@ -262,12 +263,15 @@ def stored_files():
     """(path, content) of each stored file."""
     reads, plans, case_a = reader_pieces(), plan_pieces(), next(paper_cases())
     pieces, answers = placings.stored()
+    pairs, verdicts = orders.stored()
     yield "crates/leastplan/stdin", case_a
     yield "crates/leastplan/stdout", ref.leastplan(case_a)
     yield "crates/sheet_cases/stdin", framed(reads)
     yield "crates/sheet_cases/stdout", marked(read_answer(p) for p in reads)
     yield "crates/placing_cases/stdin", framed(pieces)
     yield "crates/placing_cases/stdout", marked(answers)
+    yield "crates/order_cases/stdin", pairs
+    yield "crates/order_cases/stdout", verdicts
     yield "crates/plan_cases/stdin", framed(plans)
     yield "crates/plan_cases/stdout", marked(ref.leastplan(p) for p in plans)
 
