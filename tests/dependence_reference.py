@@ -3,7 +3,8 @@
 
 Independent of the Rattle crates: walks are lists of edge numbers, tried by length and, within a
 length, in the order of the lists, and every answer is a sum or a greatest over them. Nothing is
-relaxed and no table is kept. So it is slow, and for small graphs only.
+relaxed and no table is kept. So it is slow, and for small graphs only. Question 4 goes by the
+sheet's cap, and for the total of an edge, which knows no sheet, by the greatest cap.
 
 Why walks of at most N edges are enough: a longer walk passes an operation twice. What lies between
 is a closed walk. If none of those is bad, cutting it out leaves a sum that is no smaller; if one is
@@ -18,20 +19,12 @@ import os
 import random
 import sys
 
-INTERVALS = (0, 1, 2, 3, 6, 64, 65)
+from reference import Sheet, resource_bound, sheet_text
+
+INTERVALS = (0, 1, 2, 3, 4, 5, 6, 64, 65)
+GREATEST_CAP = 64
 FLOOR = 16384
 SEED = 20020
-
-# ---- the sheet as text
-
-
-def text(horizon, cap, types, ops, edges):
-    lines = [f"horizon={horizon}", f"cap={cap}", f"types={len(types)}"]
-    lines += [f"type={a},{d}" for a, d in types]
-    lines += [f"ops={len(ops)}"] + [f"op={r}" for r in ops]
-    lines += [f"edges={len(edges)}"] + [f"edge={i},{j},{d},{b}" for i, j, d, b in edges]
-    return "".join(line + "\n" for line in lines)
-
 
 # ---- the rules
 
@@ -114,20 +107,18 @@ def numbers(values):
     return ",".join(str(v) for v in values)
 
 
-def at_interval(graph, interval):
-    out = [f"interval={interval}"]
-    outside = not 1 <= interval <= 64
-    totals = []
-    for k in range(len(graph.edges) + 1):
-        if k == len(graph.edges):
-            totals += [3, 0]
-        elif outside:
-            totals += [4, 0]
-        else:
-            totals += [0, graph.total(k, interval)]
-    out.append("totals=" + numbers(totals))
-    if outside:
-        return out + ["walk=4", "earliest=4"]
+def totals(graph, interval):
+    """Answer and total of each edge, and 3 for the number past the last."""
+    for k in range(len(graph.edges)):
+        yield from (0, graph.total(k, interval)) if 1 <= interval <= GREATEST_CAP else (4, 0)
+    yield from (3, 0)
+
+
+def at_interval(sheet, graph, interval):
+    out = [f"interval={interval}", "totals=" + numbers(totals(graph, interval))]
+    refused = 3 if sheet is None else 4 if not 1 <= interval <= sheet.cap else 0
+    if refused:
+        return out + [f"walk={refused}", f"earliest={refused}"]
     loop = graph.first_bad(interval)
     if loop is not None:
         return out + ["walk=" + numbers((5,) + loop), "earliest=" + numbers((5,) + loop)]
@@ -139,14 +130,15 @@ def at_interval(graph, interval):
 
 
 def expected(answer, sheet):
-    """The lines for one sheet; the answer is that of reading it."""
-    out = [f"answer={answer}"]
-    if answer == 0:
-        _, cap, types, ops, edges = sheet
-        graph = Graph([types[r][1] for r in ops], edges)
-        out.append("bound=" + numbers(graph.bound(cap)))
-        for interval in INTERVALS:
-            out += at_interval(graph, interval)
+    """The lines for one sheet; the answer is that of reading it. A refused sheet (None) is all 0, and so out of range."""
+    if sheet is None:
+        graph, bounds = Graph([], []), [(3, 0), (3, 0)]
+    else:
+        graph = Graph([sheet.types[r][1] for r in sheet.ops], sheet.edges)
+        bounds = [graph.bound(sheet.cap), (0, resource_bound(sheet))]
+    out = [f"answer={answer}", "recurrence=" + numbers(bounds[0]), "resource=" + numbers(bounds[1])]
+    for interval in INTERVALS:
+        out += at_interval(sheet, graph, interval)
     return out
 
 
@@ -170,9 +162,10 @@ def chosen():
     yield 9, 9, one, [0, 0, 0], [(1, 2, 0, 0), (2, 1, -9, 0), (0, 1, 4, 0), (1, 0, -5, 0)]  # sums exactly 0
     yield 9, 64, one, [0, 0], [(0, 1, 62, 0), (1, 0, 64, 2)]  # a bound of 64
     yield 9, 63, one, [0, 0], [(0, 1, 62, 0), (1, 0, 64, 2)]  # one below it: 8
-    yield 9, 9, [(0, 32)], [0], [(0, 0, 64, 8)]
-    yield 9, 9, [(0, 0)], [0, 0], [(0, 1, -64, 8), (1, 0, -64, 8)]
+    yield 9, 64, [(0, 32)], [0], [(0, 0, 64, 8)]  # the ends of the ranges
+    yield 9, 64, [(0, 0)], [0, 0], [(0, 1, -64, 8), (1, 0, -64, 8)]
     yield 9, 9, two, [0, 1, 0], [(1, 0, 0, 0), (0, 1, -1, 0), (1, 2, 1, 1), (2, 1, 0, 0)]
+    yield 1, 2, [(8, 1), (2, 2), (0, 0)], [0] * 17 + [1] * 4 + [2] * 3, []  # a resource bound above the cap
 
 
 def random_sheets(pick, count):
@@ -190,7 +183,7 @@ def random_sheets(pick, count):
             if j <= i and pick.random() < 0.7:
                 b = max(b, 1)
             edges.append((i, j, d, b))
-        yield pick.randint(1, 128), pick.randint(1, 12), types, ops, edges
+        yield pick.randint(1, 128), pick.choice((1, 2, 3, 4, 5, GREATEST_CAP)), types, ops, edges
 
 
 REFUSED = [
@@ -207,8 +200,9 @@ REFUSED = [
 
 def pieces():
     """Each piece with the lines that are due for it."""
-    for sheet in itertools.chain(chosen(), random_sheets(random.Random(SEED), 150)):
-        yield text(*sheet), expected(0, sheet)
+    for fields in itertools.chain(chosen(), random_sheets(random.Random(SEED), 150)):
+        sheet = Sheet(*fields)
+        yield sheet_text(sheet).decode(), expected(0, sheet)
     for answer, piece in REFUSED:
         yield piece, expected(answer, None)
 

@@ -1,10 +1,12 @@
-// The answers of the dependence part for one sheet, at some intervals.
+// The answers about one sheet's dependences and its two bounds, at some intervals: by `services` and `plan`, and where those have no such function
+// (totals, lags) by `dependence` on the sheet's graph.
 use crate::print;
 use dependence::Graph;
 use dependence::MOST_OPERATIONS;
+use sheet::Sheet;
 
 // Intervals out of range at both ends, and some within.
-const INTERVALS: [usize; 7] = [0, 1, 2, 3, 6, 64, 65];
+const INTERVALS: [usize; 9] = [0, 1, 2, 3, 4, 5, 6, 64, 65];
 
 fn total(graph: Graph, interval: usize, k: usize) {
     let t = dependence::total(graph, interval, k);
@@ -13,7 +15,7 @@ fn total(graph: Graph, interval: usize, k: usize) {
     print::signed(t.value);
 }
 
-// The totals of every edge and of the number past the last.
+// The totals of every edge and of the number past the last. The sheet's cap plays no part in them.
 fn totals(graph: Graph, interval: usize) {
     print::text(b"totals=");
     let count = graph.edge_count;
@@ -37,55 +39,55 @@ fn rows(key: &[u8], table: [[i32; MOST_OPERATIONS]; MOST_OPERATIONS], count: usi
     }
 }
 
-fn starts(graph: Graph, interval: usize) {
-    let e = dependence::earliest(graph, interval, [0; MOST_OPERATIONS]);
+fn starts(sheet: Sheet, interval: usize) {
+    let e = services::earliest_starts(sheet, interval);
     if e.answer == 0 {
         let entries = e.starts;
-        print::list(b"earliest=", 0, entries, graph.ops);
+        print::list(b"earliest=", 0, entries, sheet.op_count);
     } else {
         let edges = e.loop_edges;
         print::list(b"earliest=", e.answer, edges, e.loop_length);
     }
 }
 
-fn at_interval(graph: Graph, interval: usize) {
+fn at_interval(sheet: Sheet, interval: usize) {
     print::line(b"interval=", interval);
+    let graph = sheet::graph_of(sheet);
     totals(graph, interval);
-    let w = dependence::bad_walk(graph, interval);
+    let w = services::bad_walk(sheet, interval);
     let edges = w.loop_edges;
     print::list(b"walk=", w.answer, edges, w.loop_length);
-    starts(graph, interval);
+    starts(sheet, interval);
     if w.answer == 0 {
         rows(
             b"separation=",
-            dependence::separations(graph, interval),
-            graph.ops,
+            services::separations(sheet, interval),
+            sheet.op_count,
         );
-        rows(b"lag=", dependence::lags(graph, interval), graph.ops);
+        rows(b"lag=", dependence::lags(graph, interval), sheet.op_count);
     }
 }
 
-fn all_intervals(graph: Graph) {
+fn all_intervals(sheet: Sheet) {
     let mut i: usize = 0;
-    while i < 7 {
-        at_interval(graph, INTERVALS[i]);
+    while i < 9 {
+        at_interval(sheet, INTERVALS[i]);
         i += 1;
     }
 }
 
-// The answer of reading the sheet and, where it is 0, those of the dependence part.
+fn bounds(sheet: Sheet) {
+    let recurrence = services::recurrence_bound(sheet);
+    print::pair(b"recurrence=", recurrence.answer, recurrence.value);
+    let resource = plan::resource_bound(sheet);
+    print::pair(b"resource=", resource.answer, resource.value);
+}
+
+// The answer of reading the sheet and those about what was read: a refused sheet is all 0, and so out of range.
 pub fn sheet(bytes: &[u8]) {
     let read = reader::read(bytes);
     print::line(b"answer=", read.answer);
-    if read.answer == 0 {
-        let s = read.sheet;
-        let graph = sheet::graph_of(s);
-        let b = dependence::recurrence_bound(graph, s.cap);
-        print::text(b"bound=");
-        print::number(b.answer);
-        print::text(b",");
-        print::number(b.value);
-        print::text(b"\n");
-        all_intervals(graph);
-    }
+    let s = read.sheet;
+    bounds(s);
+    all_intervals(s);
 }

@@ -1,4 +1,4 @@
-// Runs the dependence part on each piece of the standard input, a loop sheet each, and prints its answers.
+// Runs the dependence services and the bounds on each piece of the standard input, a loop sheet each, and prints their answers.
 // tests/dependence_reference.py made the input and the output that is due.
 mod answers;
 mod print;

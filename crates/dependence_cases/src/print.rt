@@ -28,6 +28,15 @@ pub fn line(key: &[u8], n: usize) {
     text(b"\n");
 }
 
+// A key and two numbers.
+pub fn pair(key: &[u8], first: usize, second: usize) {
+    text(key);
+    number(first);
+    text(b",");
+    number(second);
+    text(b"\n");
+}
+
 // A key, a number, and the first `count` entries of a list.
 pub fn list(key: &[u8], first: usize, entries: [usize; MOST_OPERATIONS], count: usize) {
     text(key);

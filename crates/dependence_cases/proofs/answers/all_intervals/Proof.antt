@@ -6,10 +6,10 @@ use Rattle.dependence_cases.proofs.answers.all_intervals.Statement.{sta
 use Rattle.dependence_cases.proofs.answers.all_intervals.Tie as tie
 
 abbrev Inv-loop : tie.InvT-loop
-Inv-loop graph i₀ i = i ≤ 7
+Inv-loop sheet i₀ i = i ≤ 9
 
 abbrev μ-loop : tie.MeasureT-loop
-μ-loop graph i₀ i = 7 - i
+μ-loop sheet i₀ i = 9 - i
 
 loop-holds : tie.Need-loop-holds Inv-loop μ-loop
 loop-holds c = search needs
