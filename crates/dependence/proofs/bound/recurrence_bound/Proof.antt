@@ -61,7 +61,7 @@ returns c = let here = c .before .before .before in
     let l = here .before .loop in
     let a = c .before .before .net-of .ensures .1 in
     let e = c .before .settle .ensures .none (c .if3 .left) in
-    bound-found refl (ranged here) (capped here) (l .inv .0) (here .loop-test .taken) (no-bad _ _ _ a (e .meets)) (l .inv .2)
+    bound-found refl (ranged here) (capped here) (l .inv .0) (omega (arith, here .loop-test .taken)) (no-bad _ _ _ a (e .meets)) (l .inv .2)
 
 returns-2 : tie.Need-returns-2 Inv-loop μ-loop
 returns-2 c = let l = c .before .loop in
