@@ -1,6 +1,6 @@
 // Domains of the plan search: rows of the starts that are still allowed, one row for each operation.
-// An inner layer, a crate of its own for the check's time: `only_class`, `without_class` and `other_class` ask for a modulus above 0, `only` for a start below 128.
-// Callers: `narrow` and `search`. Their modulus is the task's interval (above 0 by `TaskOk`) or 128, and their starts are in a row.
+// An inner layer, a crate of its own for the check's time: `only_class`, `without_class` and `other_class` ask for a modulus above 0, `next_class` for a class below its modulus, `only` for a start below 128.
+// Callers: `support`, `windows`, `narrow` and `search`. Their modulus is the task's interval (above 0 by `TaskOk`) or 128, their classes are below it, and their starts are in a row.
 ghost use mathlib.Core.Path.{_≡_};
 ghost use mathlib.Core.Bool.{true, false};
 ghost use Prim.Native.Nat.{ℕ, _+_, _≤_, _<_};

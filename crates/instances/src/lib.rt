@@ -65,7 +65,7 @@ fn lowest_free(
     v
 }
 
-// The instances for the starts x.
+// The instances for the starts x. Left free: entries past `ops`; schedule::plan_at puts 0 there.
 pub fn instances(p: Task, x: [usize; 24]) -> [usize; 24]
     requires { ⌜ TaskOk p ⌝ }
     ensures { λ r. ⌜ Seats p x r ⌝ }

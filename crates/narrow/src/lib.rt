@@ -1,4 +1,4 @@
-// A domain without starts that no plan has: the two rules, and the order in which they are tried.
+// Takes starts that no plan has out of a domain: the two rules, and the order in which they are tried.
 // An inner layer, a crate of its own for the check's time: `narrow` asks for a task whose numbers are within its arrays and whose lags every plan keeps (`Ready`).
 // Caller: `search`, with the task of schedule::plan_at, which proves `Ready` from the sheet and from what `dependence` promises.
 ghost use mathlib.Core.Path.{_≡_};
@@ -171,7 +171,8 @@ fn settled(d: [[bool; 128]; 24], new: [bool; 24], i: usize, n: usize) -> bool
     first_marked(new, n) == n
 }
 
-// A domain without starts that no plan has; `first` marks the rows that are new to the rules. The bound on the steps is not reached.
+// The domain, with starts taken out that no plan has; `first` marks the rows that are new to the rules. To reach the bound on the steps would only mean less narrowing.
+// Left free: how many of the starts that no plan has go, and the rows past `ops`, which stand for no operation.
 pub fn narrow(p: Task, ok: [[bool; 128]; 24], first: [bool; 24]) -> [[bool; 128]; 24]
     requires { ⌜ Ready p ⌝ }
     ensures { λ r. ⌜ Keeps (PlanOf p) (p .ops) ok r ⌝ }

@@ -141,7 +141,8 @@ fn joined(near: [bool; 576], edges: Edges, count: usize) -> [bool; 576]
     out
 }
 
-// The task of a sheet at an interval, with the lags of its graph.
+// The task of a sheet at an interval, with the lags of its graph. Left free: `near`, which only guides the search, how far a lag is below the
+// table's (`Clipped`), and entries past the counts, except that past the types the instances are 0.
 pub fn task_of(sheet: Sheet, interval: usize, table: [[i32; 24]; 24]) -> Task
     requires { ⌜ sheets.InRange sheet × sheets.Interval sheet interval ⌝ }
     ensures { λ r. ⌜ TaskFor sheet interval table r ⌝ }

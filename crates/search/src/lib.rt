@@ -26,6 +26,7 @@ pub struct Found {
 }
 
 // A plan in the domain, or none; `dirty` marks the rows that are new to the rules.
+// Left free: which plan it is, `blame`, which only guides the search, and `starts` where none was found and past `ops`.
 pub fn search(p: Task, ok: [[bool; 128]; 24], dirty: [bool; 24], blame: [u32; 24]) -> Found
     requires { ⌜ Ready p ⌝ }
     ensures { λ r. ⌜ Solved (PlanOf p) (p .ops) ok (r .yes) (r .starts) ⌝ }
@@ -115,7 +116,7 @@ fn from_plan(p: Task, ok: [[bool; 128]; 24], some: [usize; 24]) -> [usize; 24]
     x
 }
 
-// The first plan in the domain by the order of starts, or none.
+// The first plan in the domain by the order of starts, or none. Left free: `starts` where none was found and past `ops`; schedule::plan_at puts 0 there.
 pub fn first_plan(p: Task, ok: [[bool; 128]; 24]) -> First
     requires { ⌜ Ready p ⌝ }
     ensures { λ r. ⌜ FirstIn (PlanOf p) (p .ops) ok (r .yes) (r .starts) ⌝ }

@@ -1,4 +1,4 @@
--- Rule 1: a start stays only where the other operation has a start that keeps both lags with it. Assumes nothing.
+-- Rule 1: a start goes only where the other operation has no start that keeps both lags with it. Assumes nothing.
 use mathlib.Core.Path.{_≡_}
 use mathlib.Core.Bool.{Bool, true, false}
 use mathlib.Core.List.{List}
@@ -46,7 +46,7 @@ pub record Earlier (b : Bool) (a later r : ℕ) : Type 0 where
 pub record NextFrom (q : List Bool) (a : ℕ) (next : List ℕ) : Type 0 where
   pub upto : (k : ℕ) → a ≤ k → k ≤ 128 → (x : ℕ) → k ≤ x → x < 128 → has q x ≡ true → vec next k ≤ x
 
--- the row r has the starts of `row` that some start of q supports
+-- the row r loses no start of `row` that some start of q supports, and has none that `row` lacks; which of the others it has is left free
 pub record Supported (q row : List Bool) (there back : ℤ) (r : List Bool) : Type 0 where
   pub was : Part r row
   pub stays : (x t : ℕ) → x < 128 → t < 128 → has q x ≡ true → has row t ≡ true → (pos x +ℤ there) ≤ℤ pos t → (pos t +ℤ back) ≤ℤ pos x → has r t ≡ true

@@ -1,4 +1,4 @@
-// Rule 1 of narrowing, support: a start stays only where the other operation has a start that keeps both lags with it.
+// Rule 1 of narrowing, support: a start goes only where the other operation has no start that keeps both lags with it.
 // An inner layer, a crate of its own for the check's time: `supported` asks for lags within a million of 0.
 // Caller: `narrow`, with the lags of a task, which are so by `Ready`.
 ghost use mathlib.Core.Path.{_≡_};
@@ -79,7 +79,7 @@ fn earlier(b: bool, a: usize, later: usize) -> usize
     if b { a } else { later }
 }
 
-// For each a, the least start of the row that is at least a, or 128.
+// For each a, the least start of the row that is at least a, or 128. Left free: an entry may be lower, so that fewer starts go.
 pub fn next_starts(row: [bool; 128]) -> [usize; 129]
     ensures { λ r. ⌜ NextFrom row 0 r ⌝ }
 {
@@ -93,7 +93,7 @@ pub fn next_starts(row: [bool; 128]) -> [usize; 129]
     next
 }
 
-// The starts of `row` that the row with these next starts supports.
+// The starts of `row` that the row with these next starts supports. Left free: which other starts of `row` stay.
 pub fn supported(next: [usize; 129], row: [bool; 128], there: i32, back: i32) -> [bool; 128]
     requires { ⌜ Far there × Far back ⌝ }
     ensures { λ r. ⌜ SupportedBy next row there back r ⌝ }

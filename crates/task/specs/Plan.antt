@@ -69,7 +69,7 @@ pub record TaskOk (p : Task) : Type 0 where
   pub type-ok : (i : ℕ) → i < p .ops → typeOf p i < 8
   pub instances-ok : (r : ℕ) → r < 8 → instancesOf p r ≤ 8
 
--- the lags are within a million of 0, and every plan keeps them. (No walk: -1,000,000, which all starts below 128 keep.)
+-- the lags are within a million of 0, and every plan keeps them. (Those of a sheet's task are from -16,384 to 128: `Clipped` in problem.)
 pub record LagOk (p : Task) : Type 0 where
   pub low : (i j : ℕ) → i < p .ops → j < p .ops → negsuc 999999 ≤ℤ lagOf p i j
   pub high : (i j : ℕ) → i < p .ops → j < p .ops → lagOf p i j ≤ℤ pos 1000000
