@@ -68,7 +68,7 @@ fn either(a: bool, b: bool) -> bool {
     if a { true } else { b }
 }
 
-fn differ(a: [bool; 128], b: [bool; 128]) -> bool {
+fn differ(a: &[bool; 128], b: &[bool; 128]) -> bool {
     let mut any = false;
     let mut t: usize = 0;
     while t < 128 {
@@ -79,14 +79,14 @@ fn differ(a: [bool; 128], b: [bool; 128]) -> bool {
 }
 
 // Whether the step at operation i, or at none, may have changed the row of k.
-fn reached(near: [bool; 576], i: usize, n: usize, k: usize) -> bool
+fn reached(near: &[bool; 576], i: usize, n: usize, k: usize) -> bool
     requires { ⌜ (n ≤ 24) × (k < 24) ⌝ }
 {
     if i < n { near[i * 24 + k] } else { true }
 }
 
 // Whether a row that is worth a look changed from a to b.
-fn altered(look: bool, a: [bool; 128], b: [bool; 128]) -> bool {
+fn altered(look: bool, a: &[bool; 128], b: &[bool; 128]) -> bool {
     if look {
         return differ(a, b);
     }
@@ -95,9 +95,9 @@ fn altered(look: bool, a: [bool; 128], b: [bool; 128]) -> bool {
 
 // Which rows the step at i changed from d to e.
 fn changes(
-    near: [bool; 576],
-    d: [[bool; 128]; 24],
-    e: [[bool; 128]; 24],
+    near: &[bool; 576],
+    d: &[[bool; 128]; 24],
+    e: &[[bool; 128]; 24],
     i: usize,
     n: usize,
 ) -> [bool; 24]
@@ -106,7 +106,7 @@ fn changes(
     let mut out = [false; 24];
     let mut k: usize = 0;
     while k < n {
-        out[k] = altered(reached(near, i, n, k), d[k], e[k]);
+        out[k] = altered(reached(near, i, n, k), &d[k], &e[k]);
         k += 1;
     }
     out
@@ -143,7 +143,7 @@ fn since(old: [bool; 24], new: [bool; 24], tried: bool) -> [bool; 24] {
 }
 
 // Whether a row that changed has no start left.
-fn emptied(d: [[bool; 128]; 24], new: [bool; 24], n: usize) -> bool
+fn emptied(d: &[[bool; 128]; 24], new: [bool; 24], n: usize) -> bool
     requires { ⌜ n ≤ 24 ⌝ }
 {
     let mut k: usize = 0;
@@ -159,7 +159,7 @@ fn emptied(d: [[bool; 128]; 24], new: [bool; 24], n: usize) -> bool
 }
 
 // Whether the steps may end: a row has no start, or no rule changed anything.
-fn settled(d: [[bool; 128]; 24], new: [bool; 24], i: usize, n: usize) -> bool
+fn settled(d: &[[bool; 128]; 24], new: [bool; 24], i: usize, n: usize) -> bool
     requires { ⌜ n ≤ 24 ⌝ }
 {
     if emptied(d, new, n) {
@@ -186,9 +186,9 @@ pub fn narrow(p: Task, ok: [[bool; 128]; 24], first: [bool; 24]) -> [[bool; 128]
     while fuel < 10000 {
         let i = first_marked(dirty, n);
         let e = step(p, d, i, changed);
-        let new = changes(near, d, e, i, n);
+        let new = changes(&near, &d, &e, i, n);
         d = e;
-        if settled(d, new, i, n) {
+        if settled(&d, new, i, n) {
             return d;
         }
         let next = marks(dirty, new, i);

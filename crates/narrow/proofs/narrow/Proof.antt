@@ -31,7 +31,7 @@ settled-requires : tie.Need-settled-requires Inv-loop μ-loop
 settled-requires c κs = search needs
 
 returns : tie.Need-returns Inv-loop μ-loop
-returns c = keeps-trans (PlanOf (c .before .before .before .before .before .before .before .before .args .p)) _ (c .before .before .before .before .before .before .loop .inv .1) (c .before .before .before .step .ensures)
+returns c = let s = c .before .before .before .before .before .before .before in keeps-trans (PlanOf (s .before .before .before .before .before .args .p)) _ (s .before .before .before .loop .inv .1) (s .step .ensures)
 
 marks-requires : tie.Need-marks-requires Inv-loop μ-loop
 marks-requires c κs = search needs
@@ -46,7 +46,7 @@ loop-less : tie.Need-loop-less Inv-loop μ-loop
 loop-less c = search needs
 
 loop-again : tie.Need-loop-again Inv-loop μ-loop
-loop-again c = (omega (arith, c .before .before .before .before .before .before .before .loop-test .taken), keeps-trans (PlanOf (c .before .before .before .before .before .before .before .before .before .before .args .p)) _ (c .before .before .before .before .before .before .before .before .loop .inv .1) (c .before .before .before .before .before .step .ensures))
+loop-again c = let s = c .before .before .before .before .before .before .before .before .before in (omega (arith, s .before .before .loop-test .taken), keeps-trans (PlanOf (s .before .before .before .before .before .args .p)) _ (s .before .before .before .loop .inv .1) (s .step .ensures))
 
 returns-2 : tie.Need-returns-2 Inv-loop μ-loop
 returns-2 c = search needs
