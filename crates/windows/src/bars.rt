@@ -26,9 +26,9 @@ fn inside_bit(resource: usize, reach: usize, r: usize, w: usize) -> usize
 }
 
 // How many operations of type r reach at most w.
-pub fn inside(resource: [usize; 24], reach: [usize; 24], n: usize, r: usize, w: usize) -> usize
+pub fn inside(resource: &[usize; 24], reach: &[usize; 24], n: usize, r: usize, w: usize) -> usize
     requires { ⌜ n ≤ 24 ⌝ }
-    ensures { λ c. ⌜ c ≡ tally n (insideB (vec resource) (vec reach) r w) ⌝ }
+    ensures { λ c. ⌜ c ≡ tally n (insideB (vec (now (resource .entry))) (vec (now (reach .entry))) r w) ⌝ }
 {
     let mut c: usize = 0;
     let mut i: usize = 0;
@@ -51,7 +51,7 @@ pub fn one_if(same: bool) -> u32 {
 }
 
 // How many operations of type r reach just so far. No promise: it only tells where `inside` is worth a count.
-fn reach_counts(resource: [usize; 24], reach: [usize; 24], n: usize, r: usize) -> [u32; 65]
+fn reach_counts(resource: &[usize; 24], reach: &[usize; 24], n: usize, r: usize) -> [u32; 65]
     requires { ⌜ n ≤ 24 ⌝ }
 {
     let mut counts = [0u32; 65];
@@ -80,17 +80,17 @@ fn raise(full: bool, same: bool, bar: usize, reach: usize, w: usize) -> usize
 // The bars after the window of w slots, where it is full.
 fn raised(
     full: bool,
-    bar: [usize; 24],
-    resource: [usize; 24],
-    reach: [usize; 24],
+    bar: &[usize; 24],
+    resource: &[usize; 24],
+    reach: &[usize; 24],
     n: usize,
     r: usize,
     w: usize,
 ) -> [usize; 24]
     requires { ⌜ n ≤ 24 ⌝ }
-    ensures { λ out. ⌜ Raised n full bar (vec resource) reach r w out ⌝ }
+    ensures { λ out. ⌜ Raised n full (now (bar .entry)) (vec (now (resource .entry))) (now (reach .entry)) r w out ⌝ }
 {
-    let mut out = bar;
+    let mut out = [0usize; 24];
     let mut i: usize = 0;
     while i < n {
         out[i] = raise(full, resource[i] == r, bar[i], reach[i], w);
@@ -120,18 +120,18 @@ fn worth(cap: usize, seem: u32, most: u32) -> bool {
 
 // The windows from slot s on, for the `most` operations of type r with a instances.
 pub fn bars(
-    resource: [usize; 24],
+    resource: &[usize; 24],
     n: usize,
     l: usize,
     a: usize,
     most: u32,
-    used: [bool; 64],
-    reach: [usize; 24],
+    used: &[bool; 64],
+    reach: &[usize; 24],
     r: usize,
     s: usize,
 ) -> Barrier
     requires { ⌜ (n ≤ 24) × (l ≤ 64) × (s < l) × (a ≤ 8) ⌝ }
-    ensures { λ b. ⌜ Barred n (vec resource) l a r s used reach (b .fail) (b .bar) ⌝ }
+    ensures { λ b. ⌜ Barred n (vec (now (resource .entry))) l a r s (now (used .entry)) (now (reach .entry)) (b .fail) (b .bar) ⌝ }
 {
     let counts = reach_counts(resource, reach, n, r);
     let mut bar = [0usize; 24];
@@ -161,7 +161,7 @@ pub fn bars(
                     bar,
                 };
             }
-            let up = raised(c == cap, bar, resource, reach, n, r, w);
+            let up = raised(c == cap, &bar, resource, reach, n, r, w);
             bar = up;
             some = true;
         }

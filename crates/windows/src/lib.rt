@@ -20,45 +20,38 @@ use task::Task;
 use trims::drained;
 
 // Rule 2 for type r, which `most` operations have.
-fn type_windows(
-    p: Task,
-    ok: [[bool; 128]; 24],
-    z: [[bool; 64]; 24],
-    r: usize,
-    most: u32,
-) -> [[bool; 128]; 24]
-    requires { ⌜ TaskOk p × (r < 8) × (0 < instancesOf p r) × Slotted (p .ops) (p .interval) (typeOf p) r ok z ⌝ }
-    ensures { λ d. ⌜ Keeps (PlanOf p) (p .ops) ok d ⌝ }
+fn type_windows(p: Task, d: &mut [[bool; 128]; 24], z: &[[bool; 64]; 24], r: usize, most: u32)
+    requires { ⌜ TaskOk p × (r < 8) × (0 < instancesOf p r) × Slotted (p .ops) (p .interval) (typeOf p) r (now d) (now z) ⌝ }
+    ensures { λ _. ⌜ Keeps (PlanOf p) (p .ops) (now (d .entry)) (now (d .exit)) ⌝ }
 {
     let n = p.ops;
     let l = p.interval;
     let resource = p.resource;
     let a = p.instances[r];
-    let used = used_slots(z, resource, n, r);
+    let used = used_slots(z, &resource, n, r);
     let mut reach = reach_zero(z, n, l);
-    let mut d = ok;
     let mut s: usize = 0;
     while s < p.interval {
         if used[s] {
-            let b = bars(resource, n, l, a, most, used, reach, r, s);
+            let b = bars(&resource, n, l, a, most, &used, &reach, r, s);
             if b.fail {
-                return [[false; 128]; 24];
+                *d = [[false; 128]; 24];
+                return;
             }
             if b.some {
                 let bar = b.bar;
-                let e = drained(d, z, resource, bar, n, r, s, l);
-                d = e;
+                let e = drained(d, z, &resource, &bar, n, r, s, l);
+                *d = e;
             }
         }
-        let next = stepped(reach, z, s, n, l);
+        let next = stepped(&reach, z, s, n, l);
         reach = next;
         s += 1;
     }
-    d
 }
 
 // How many operations are of type r. No promise: rule 2 says nothing of a type with no more operations than instances.
-fn operations_of(resource: [usize; 24], n: usize, r: usize) -> u32
+fn operations_of(resource: &[usize; 24], n: usize, r: usize) -> u32
     requires { ⌜ n ≤ 24 ⌝ }
 {
     let mut c: u32 = 0;
@@ -71,23 +64,22 @@ fn operations_of(resource: [usize; 24], n: usize, r: usize) -> u32
 }
 
 // Rule 2 for type r, if it is limited.
-fn limited_windows(p: Task, ok: [[bool; 128]; 24], r: usize) -> [[bool; 128]; 24]
+fn limited_windows(p: Task, d: &mut [[bool; 128]; 24], r: usize)
     requires { ⌜ TaskOk p × (r < 8) ⌝ }
-    ensures { λ d. ⌜ Keeps (PlanOf p) (p .ops) ok d ⌝ }
+    ensures { λ _. ⌜ Keeps (PlanOf p) (p .ops) (now (d .entry)) (now (d .exit)) ⌝ }
 {
     if 0 < p.instances[r] {
         let resource = p.resource;
-        let most = operations_of(resource, p.ops, r);
+        let most = operations_of(&resource, p.ops, r);
         if p.instances[r] < most as usize {
-            let z = slot_rows(ok, resource, p.ops, p.interval, r);
-            return type_windows(p, ok, z, r, most);
+            let z = slot_rows(d, &resource, p.ops, p.interval, r);
+            type_windows(p, d, &z, r, most);
         }
     }
-    ok
 }
 
 // Whether the row of an operation of type r changed.
-fn changed_in(resource: [usize; 24], changed: [bool; 24], n: usize, r: usize) -> bool
+fn changed_in(resource: &[usize; 24], changed: &[bool; 24], n: usize, r: usize) -> bool
     requires { ⌜ n ≤ 24 ⌝ }
 {
     let mut i: usize = 0;
@@ -111,9 +103,8 @@ pub fn windows(p: Task, ok: [[bool; 128]; 24], changed: [bool; 24]) -> [[bool; 1
     let mut d = ok;
     let mut r: usize = 0;
     while r < 8 {
-        if changed_in(resource, changed, p.ops, r) {
-            let e = limited_windows(p, d, r);
-            d = e;
+        if changed_in(&resource, &changed, p.ops, r) {
+            limited_windows(p, &mut d, r);
         }
         r += 1;
     }

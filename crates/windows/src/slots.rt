@@ -34,9 +34,9 @@ pub fn either(a: bool, b: bool) -> bool
 }
 
 // The slots of a row's starts.
-fn slot_row(row: [bool; 128], l: usize) -> [bool; 64]
+fn slot_row(row: &[bool; 128], l: usize) -> [bool; 64]
     requires { ⌜ (0 < l) × (l ≤ 64) ⌝ }
-    ensures { λ r. ⌜ SlotRow l row r ⌝ }
+    ensures { λ r. ⌜ SlotRow l (now (row .entry)) r ⌝ }
 {
     let mut seen = [false; 64];
     let mut s: usize = 0;
@@ -51,9 +51,9 @@ fn slot_row(row: [bool; 128], l: usize) -> [bool; 64]
 }
 
 // The same, if the operation is of the type.
-fn slot_row_if(same: bool, row: [bool; 128], l: usize) -> [bool; 64]
+fn slot_row_if(same: bool, row: &[bool; 128], l: usize) -> [bool; 64]
     requires { ⌜ (0 < l) × (l ≤ 64) ⌝ }
-    ensures { λ r. ⌜ SlotIf same l row r ⌝ }
+    ensures { λ r. ⌜ SlotIf same l (now (row .entry)) r ⌝ }
 {
     if same {
         return slot_row(row, l);
@@ -63,29 +63,29 @@ fn slot_row_if(same: bool, row: [bool; 128], l: usize) -> [bool; 64]
 
 // The slots of the starts of each operation of type r.
 pub fn slot_rows(
-    ok: [[bool; 128]; 24],
-    resource: [usize; 24],
+    ok: &[[bool; 128]; 24],
+    resource: &[usize; 24],
     n: usize,
     l: usize,
     r: usize,
 ) -> [[bool; 64]; 24]
     requires { ⌜ (n ≤ 24) × (0 < l) × (l ≤ 64) ⌝ }
-    ensures { λ z. ⌜ Slotted n l (vec resource) r ok z ⌝ }
+    ensures { λ z. ⌜ Slotted n l (vec (now (resource .entry))) r (now (ok .entry)) z ⌝ }
 {
     let mut z = [[false; 64]; 24];
     let mut i: usize = 0;
     while i < n {
-        z[i] = slot_row_if(resource[i] == r, ok[i], l);
+        z[i] = slot_row_if(resource[i] == r, &ok[i], l);
         i += 1;
     }
     z
 }
 
-fn merged(same: bool, u: [bool; 64], row: [bool; 64]) -> [bool; 64]
-    ensures { λ r. ⌜ Merged same u row r ⌝ }
+fn merged(same: bool, u: &[bool; 64], row: &[bool; 64]) -> [bool; 64]
+    ensures { λ r. ⌜ Merged same (now (u .entry)) (now (row .entry)) r ⌝ }
 {
-    let mut out = u;
     if same {
+        let mut out = [false; 64];
         let mut b: usize = 0;
         while b < 64 {
             out[b] = either(row[b], u[b]);
@@ -93,18 +93,18 @@ fn merged(same: bool, u: [bool; 64], row: [bool; 64]) -> [bool; 64]
         }
         return out;
     }
-    out
+    *u
 }
 
 // The slots that operations of type r may still use.
-pub fn used_slots(z: [[bool; 64]; 24], resource: [usize; 24], n: usize, r: usize) -> [bool; 64]
+pub fn used_slots(z: &[[bool; 64]; 24], resource: &[usize; 24], n: usize, r: usize) -> [bool; 64]
     requires { ⌜ n ≤ 24 ⌝ }
-    ensures { λ u. ⌜ UsedBy n (vec resource) r z u ⌝ }
+    ensures { λ u. ⌜ UsedBy n (vec (now (resource .entry))) r (now (z .entry)) u ⌝ }
 {
     let mut u = [false; 64];
     let mut i: usize = 0;
     while i < n {
-        let next = merged(resource[i] == r, u, z[i]);
+        let next = merged(resource[i] == r, &u, &z[i]);
         u = next;
         i += 1;
     }
@@ -119,9 +119,9 @@ fn farther(b: bool, at: usize, far: usize) -> usize
 }
 
 // One past the last slot of a row.
-fn far_row(row: [bool; 64], l: usize) -> usize
+fn far_row(row: &[bool; 64], l: usize) -> usize
     requires { ⌜ l ≤ 64 ⌝ }
-    ensures { λ r. ⌜ FarRow l row r ⌝ }
+    ensures { λ r. ⌜ FarRow l (now (row .entry)) r ⌝ }
 {
     let mut far: usize = 0;
     let mut b: usize = 0;
@@ -134,14 +134,14 @@ fn far_row(row: [bool; 64], l: usize) -> usize
 }
 
 // How far from slot 0 each operation's slots reach.
-pub fn reach_zero(z: [[bool; 64]; 24], n: usize, l: usize) -> [usize; 24]
+pub fn reach_zero(z: &[[bool; 64]; 24], n: usize, l: usize) -> [usize; 24]
     requires { ⌜ (n ≤ 24) × (l ≤ 64) ⌝ }
-    ensures { λ r. ⌜ Reach n l 0 z r ⌝ }
+    ensures { λ r. ⌜ Reach n l 0 (now (z .entry)) r ⌝ }
 {
     let mut reach = [0usize; 24];
     let mut i: usize = 0;
     while i < n {
-        reach[i] = far_row(z[i], l);
+        reach[i] = far_row(&z[i], l);
         i += 1;
     }
     reach
@@ -157,11 +157,17 @@ fn step_one(b: bool, l: usize, old: usize) -> usize
 }
 
 // How far from the next slot they reach.
-pub fn stepped(reach: [usize; 24], z: [[bool; 64]; 24], s: usize, n: usize, l: usize) -> [usize; 24]
-    requires { ⌜ (n ≤ 24) × (s < l) × (l ≤ 64) × Reach n l s z reach ⌝ }
-    ensures { λ r. ⌜ (s + 1 < l → Reach n l (s + 1) z r) ⌝ }
+pub fn stepped(
+    reach: &[usize; 24],
+    z: &[[bool; 64]; 24],
+    s: usize,
+    n: usize,
+    l: usize,
+) -> [usize; 24]
+    requires { ⌜ (n ≤ 24) × (s < l) × (l ≤ 64) × Reach n l s (now z) (now reach) ⌝ }
+    ensures { λ r. ⌜ (s + 1 < l → Reach n l (s + 1) (now (z .entry)) r) ⌝ }
 {
-    let mut out = reach;
+    let mut out = [0usize; 24];
     let mut i: usize = 0;
     while i < n {
         out[i] = step_one(z[i][s], l, reach[i]);

@@ -15,7 +15,7 @@ fn past(b: bool, far: usize, bar: usize) -> bool
 }
 
 // Whether an operation of the type has a slot less than bar after s. (Where it has none its row stays as it is, which is right in any case.)
-fn cuts(same: bool, slots: [bool; 64], bar: usize, s: usize, l: usize) -> bool
+fn cuts(same: bool, slots: &[bool; 64], bar: usize, s: usize, l: usize) -> bool
     requires { ⌜ (s < l) × (l ≤ 64) ⌝ }
     ensures { λ r. ⌜ Cuts same r ⌝ }
 {
@@ -36,12 +36,12 @@ fn cuts(same: bool, slots: [bool; 64], bar: usize, s: usize, l: usize) -> bool
 }
 
 // A row without the starts whose slot is less than bar after s.
-fn trim(cut: bool, row: [bool; 128], bar: usize, s: usize, l: usize) -> [bool; 128]
+fn trim(cut: bool, row: &[bool; 128], bar: usize, s: usize, l: usize) -> [bool; 128]
     requires { ⌜ (s < l) × (l ≤ 64) ⌝ }
-    ensures { λ r. ⌜ Trimmed cut bar s l row r ⌝ }
+    ensures { λ r. ⌜ Trimmed cut bar s l (now (row .entry)) r ⌝ }
 {
-    let mut out = row;
     if cut {
+        let mut out = [false; 128];
         let mut b: usize = 0;
         let mut t: usize = 0;
         while t < 128 {
@@ -52,28 +52,28 @@ fn trim(cut: bool, row: [bool; 128], bar: usize, s: usize, l: usize) -> [bool; 1
         }
         return out;
     }
-    out
+    *row
 }
 
 // The domain without the starts that the bars rule out.
 pub fn drained(
-    d: [[bool; 128]; 24],
-    z: [[bool; 64]; 24],
-    resource: [usize; 24],
-    bar: [usize; 24],
+    d: &[[bool; 128]; 24],
+    z: &[[bool; 64]; 24],
+    resource: &[usize; 24],
+    bar: &[usize; 24],
     n: usize,
     r: usize,
     s: usize,
     l: usize,
 ) -> [[bool; 128]; 24]
     requires { ⌜ (n ≤ 24) × (s < l) × (l ≤ 64) ⌝ }
-    ensures { λ out. ⌜ Drained n (vec resource) r s l bar d out ⌝ }
+    ensures { λ out. ⌜ Drained n (vec (now (resource .entry))) r s l (now (bar .entry)) (now (d .entry)) out ⌝ }
 {
-    let mut out = d;
+    let mut out = [[false; 128]; 24];
     let mut i: usize = 0;
     while i < n {
-        let cut = cuts(resource[i] == r, z[i], bar[i], s, l);
-        out[i] = trim(cut, d[i], bar[i], s, l);
+        let cut = cuts(resource[i] == r, &z[i], bar[i], s, l);
+        out[i] = trim(cut, &d[i], bar[i], s, l);
         i += 1;
     }
     out

@@ -14,10 +14,10 @@ use Rattle.windows.proofs.type_windows.Statement.{statement}
 use Rattle.windows.proofs.type_windows.Tie as tie
 
 abbrev Inv-loop : tie.InvT-loop
-Inv-loop z r most p n l resource a used reach₀ d₀ s₀ reach d s = (s ≤ l) × (s < l → Reach n l s z reach) × Keeps (PlanOf p) n d₀ d
+Inv-loop d₀ z r most p n l resource a used reach₀ s₀ d reach s = (s ≤ l) × (s < l → Reach n l s z reach) × Keeps (PlanOf p) n d₀ d
 
 abbrev μ-loop : tie.MeasureT-loop
-μ-loop z r most p n l resource a used reach₀ d₀ s₀ reach d s = l - s
+μ-loop d₀ z r most p n l resource a used reach₀ s₀ d reach s = l - s
 
 mul-a : tie.Need-mul-a Inv-loop μ-loop
 mul-a c = search needs
@@ -38,16 +38,16 @@ array-read-if1 : tie.Need-array-read-if1 Inv-loop μ-loop
 array-read-if1 c = search needs
 
 bars-requires : tie.Need-bars-requires Inv-loop μ-loop
-bars-requires c κs = let s = c .before .before .before .before .before .before .before in (s .pre .0 .ops-ok, s .pre .0 .interval-max, c .before .loop-test .taken, s .pre .0 .instances-ok (s .args .r) (s .pre .1))
+bars-requires c κs = let s = c .before .before .before .before .before .before .before .before .before .before .before in (s .pre .0 .ops-ok, s .pre .0 .interval-max, c .before .before .before .before .loop-test .taken, s .pre .0 .instances-ok (s .args .r) (s .pre .1))
 
 returns : tie.Need-returns Inv-loop μ-loop
-returns c = let s = c .before .before .before .before .before .before .before .before .before in let l = c .before .before .before .before .loop in keeps-empty (PlanOf (s .args .t1)) _ (replicate 24 (replicate 128 false)) (λ i h t k. empty-row i t (omega (arith, s .pre .0 .ops-ok)) k) (bars-none (s .args .t1) (s .pre .0) (s .args .r) (l .s) (s .pre .2) (s .pre .3) (c .before .before .before .before .before .before .used-slots .ensures) (l .inv .1 (c .before .before .before .loop-test .taken)) (c .before .bars .ensures) (c .if2 .taken))
+returns c = let s = c .before .before .before .before .before .before .before .before .before .before .before .before .before .before in let l = c .before .before .before .before .before .before .before .before .loop in keeps-empty (PlanOf (s .args .t1)) _ (replicate 24 (replicate 128 false)) (λ i h t k. empty-row i t (omega (arith, s .pre .0 .ops-ok)) k) (bars-none (s .args .t1) (s .pre .0) (s .args .r) (l .s) (s .pre .2) (s .pre .3) (c .before .before .before .before .before .before .before .before .before .before .used-slots .ensures) (l .inv .1 (c .before .before .before .before .before .before .before .loop-test .taken)) (c .before .before .bars .ensures) (c .before .if2 .taken))
 
 drained-requires : tie.Need-drained-requires Inv-loop μ-loop
-drained-requires c κs = let s = c .before .before .before .before .before .before .before .before .before .before .before in (s .pre .0 .ops-ok, c .before .before .before .before .before .loop-test .taken, s .pre .0 .interval-max)
+drained-requires c κs = let s = c .before .before .before .before .before .before .before .before .before .before .before .before .before .before .before .before .before .before in (s .pre .0 .ops-ok, c .before .before .before .before .before .before .before .before .before .before .before .loop-test .taken, s .pre .0 .interval-max)
 
 stepped-requires : tie.Need-stepped-requires Inv-loop μ-loop
-stepped-requires c κs = let s = c .before .before .before .before .before .before .before in let h = c .before .loop-test .taken in (s .pre .0 .ops-ok, h, s .pre .0 .interval-max, c .before .before .loop .inv .1 h)
+stepped-requires c κs = let s = c .before .before .before .before .before .before .before .before .before in let h = c .before .before .loop-test .taken in (s .pre .0 .ops-ok, h, s .pre .0 .interval-max, c .before .before .before .loop .inv .1 h)
 
 add-s : tie.Need-add-s Inv-loop μ-loop
 add-s c = search needs
@@ -56,11 +56,11 @@ loop-less : tie.Need-loop-less Inv-loop μ-loop
 loop-less c = search needs
 
 loop-again : tie.Need-loop-again Inv-loop μ-loop
-loop-again c = let s = c .before .before .before .before .before .before .before .before in let l = c .before .before .before .loop in (
-  omega (arith, c .before .before .loop-test .taken),
+loop-again c = let s = c .before .before .before .before .before .before .before .before .before .before in let l = c .before .before .before .before .loop in (
+  omega (arith, c .before .before .before .loop-test .taken),
   c .stepped .ensures,
-  ⊎-elim (λ w. rw (w .6) (bars-keep (s .args .t1) (s .pre .0) (s .args .r) (l .s) (s .pre .2) (s .pre .3) (c .before .before .before .before .before .used-slots .ensures) (l .inv .1 (c .before .before .loop-test .taken)) (w .1 .ensures) (l .inv .2) (w .5 .ensures)))
-      (λ v. ⊎-elim (λ w. rw (w .4) (l .inv .2)) (λ w. rw (w .1) (l .inv .2)) v) (c .before .if1 .came),
+  ⊎-elim (λ w. rw (w .12) (bars-keep (s .args .t1) (s .pre .0) (s .args .r) (l .s) (s .pre .2) (s .pre .3) (c .before .before .before .before .before .before .used-slots .ensures) (l .inv .1 (c .before .before .before .loop-test .taken)) (w .4 .ensures) (l .inv .2) (w .11 .ensures)))
+      (λ v. ⊎-elim (λ w. rw (w .7) (l .inv .2)) (λ w. rw (w .1) (l .inv .2)) v) (c .before .before .if1 .came),
 )
 
 returns-2 : tie.Need-returns-2 Inv-loop μ-loop

@@ -15,16 +15,16 @@ use Rattle.windows.proofs.trims.trim.Statement.{statement}
 use Rattle.windows.proofs.trims.trim.Tie as tie
 
 abbrev Inv-loop : tie.InvT-loop
-Inv-loop cut bar s l row out₀ b₀ t₀ out b t = (t ≤ 128) × (length out ≡ 128) × (t % l ≡ b) × (b < l) × ((k : ℕ) → k < t → Past (has row k) (off l s (k % l)) bar (has out k))
+Inv-loop cut row bar s l out₀ b₀ t₀ out b t = (t ≤ 128) × (length out ≡ 128) × (t % l ≡ b) × (b < l) × ((k : ℕ) → k < t → Past (has row k) (off l s (k % l)) bar (has out k))
 
 abbrev μ-loop : tie.MeasureT-loop
-μ-loop cut bar s l row out₀ b₀ t₀ out b t = 128 - t
+μ-loop cut row bar s l out₀ b₀ t₀ out b t = 128 - t
 
 loop-holds : tie.Need-loop-holds Inv-loop μ-loop
 loop-holds c = (omega arith, search needs, mod-eq-of-lt (omega arith), omega arith, λ k l. absurd (omega arith))
 
-array-read-past : tie.Need-array-read-past Inv-loop μ-loop
-array-read-past c = search needs
+element-copy-out-past : tie.Need-element-copy-out-past Inv-loop μ-loop
+element-copy-out-past c = search needs
 
 offset-requires : tie.Need-offset-requires Inv-loop μ-loop
 offset-requires c κs = search needs
@@ -45,12 +45,12 @@ loop-less : tie.Need-loop-less Inv-loop μ-loop
 loop-less c = search needs
 
 loop-again : tie.Need-loop-again Inv-loop μ-loop
-loop-again c = let l = c .before .before .before .before .loop in let a = c .before .before .before .before .before .before .args in let n = c .next-class .ensures in (
+loop-again c = let l = c .before .before .before .before .before .loop in let a = c .before .before .before .before .before .before .before .args in let n = c .next-class .ensures in (
   omega arith,
   simp length-set (l .inv .1),
   n .next (l .t) (l .inv .2),
   n .within,
-  store-more (λ k z. Past (has (a .t2) k) (off (a .l) (a .s) (k % a .l)) (a .bar) z) (l .out) (l .t) _ false (omega (arith, l .inv .1))
+  store-more (λ k z. Past (has (a .row .now) k) (off (a .l) (a .s) (k % a .l)) (a .bar) z) (l .out) (l .t) _ false (omega (arith, l .inv .1))
       (past-at (c .before .before .offset .ensures ∙ ap (λ (b : ℕ). off (a .l) (a .s) b) (sym (l .inv .2))) (c .before .past .ensures)) (l .inv .4),
 )
 
@@ -67,7 +67,7 @@ trim-spec =
     Inv-loop
     μ-loop
     loop-holds
-    array-read-past
+    element-copy-out-past
     offset-requires
     past-requires
     array-write-out
