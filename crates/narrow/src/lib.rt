@@ -21,13 +21,12 @@ fn maybe(near: bool, next: [usize; 129], row: [bool; 128], there: i32, back: i32
 }
 
 // Rule 1 from operation i to each operation near it.
-fn spread(p: Task, ok: [[bool; 128]; 24], i: usize) -> [[bool; 128]; 24]
+fn spread(p: Task, d: &mut [[bool; 128]; 24], i: usize)
     requires { ⌜ Ready p × (i < p .ops) ⌝ }
-    ensures { λ r. ⌜ Keeps (PlanOf p) (p .ops) ok r ⌝ }
+    ensures { λ _. ⌜ Keeps (PlanOf p) (p .ops) (now (d .entry)) (now (d .exit)) ⌝ }
 {
     let n = p.ops;
-    let next = support::next_starts(ok[i]);
-    let mut d = ok;
+    let next = support::next_starts(d[i]);
     let mut j: usize = 0;
     while j < n {
         let there = i * 24 + j;
@@ -35,18 +34,18 @@ fn spread(p: Task, ok: [[bool; 128]; 24], i: usize) -> [[bool; 128]; 24]
         d[j] = maybe(p.near[there], next, d[j], p.lag[there], p.lag[back]);
         j += 1;
     }
-    d
 }
 
 // One rule: rule 1 from operation i, or rule 2 on the types of the changed rows if i is none.
-fn step(p: Task, ok: [[bool; 128]; 24], i: usize, changed: [bool; 24]) -> [[bool; 128]; 24]
+fn step(p: Task, d: &mut [[bool; 128]; 24], i: usize, changed: [bool; 24])
     requires { ⌜ Ready p ⌝ }
-    ensures { λ r. ⌜ Keeps (PlanOf p) (p .ops) ok r ⌝ }
+    ensures { λ _. ⌜ Keeps (PlanOf p) (p .ops) (now (d .entry)) (now (d .exit)) ⌝ }
 {
     if i < p.ops {
-        return spread(p, ok, i);
+        spread(p, d, i);
+    } else {
+        *d = windows::windows(p, *d, changed);
     }
-    windows::windows(p, ok, changed)
 }
 
 // The first operation that is marked, or n.
@@ -185,9 +184,9 @@ pub fn narrow(p: Task, ok: [[bool; 128]; 24], first: [bool; 24]) -> [[bool; 128]
     let mut fuel: usize = 0;
     while fuel < 10000 {
         let i = first_marked(dirty, n);
-        let e = step(p, d, i, changed);
-        let new = changes(&near, &d, &e, i, n);
-        d = e;
+        let old = d;
+        step(p, &mut d, i, changed);
+        let new = changes(&near, &old, &d, i, n);
         if settled(&d, new, i, n) {
             return d;
         }
