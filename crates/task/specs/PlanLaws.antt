@@ -18,9 +18,6 @@ use Rattle.task.specs.Plan.{PlanOf, TaskOk, typeOf, instancesOf, held, f
 pub held-yes : (type t : ℕ → ℕ) (l r s i : ℕ) → held type t l r s i ≡ true → (type i ≡ r) × (t i % l ≡ s)
 held-yes type t l r s i h = let q = both-true (eqb (type i) r) (eqb (t i % l) s) h in (eqb-true (type i) r (q .0), eqb-true (t i % l) s (q .1))
 
-pub held-no : (type t : ℕ → ℕ) (l r s i : ℕ) → held type t l r s i ≡ false → type i ≡ r → t i % l ≡ s → ⊥
-held-no type t l r s i h a b = true-false (sym (both-show (eqb (type i) r) (eqb (t i % l) s) (eq-eqb _ _ a) (eq-eqb _ _ b)) ∙ h)
-
 module _ (p : Task) (ok : TaskOk p) where
   pub plan-local : (s t : ℕ → ℕ) → ((i : ℕ) → i < p .ops → s i ≡ t i) → PlanOf p s → PlanOf p t
   plan-local s t same h = record {
