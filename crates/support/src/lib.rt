@@ -94,9 +94,9 @@ pub fn next_starts(row: [bool; 128]) -> [usize; 129]
 }
 
 // The starts of `row` that the row with these next starts supports. Left free: which other starts of `row` stay.
-pub fn supported(next: [usize; 129], row: [bool; 128], there: i32, back: i32) -> [bool; 128]
+pub fn supported(next: &[usize; 129], row: [bool; 128], there: i32, back: i32) -> [bool; 128]
     requires { ⌜ Far there × Far back ⌝ }
-    ensures { λ r. ⌜ SupportedBy next row there back r ⌝ }
+    ensures { λ r. ⌜ SupportedBy (now (next .entry)) row there back r ⌝ }
 {
     let mut out = row;
     let mut t: usize = 0;

@@ -17,10 +17,10 @@ use Rattle.support.proofs.supported.Statement.{statement}
 use Rattle.support.proofs.supported.Tie as tie
 
 abbrev Inv-loop : tie.InvT-loop
-Inv-loop there back next row out₀ t₀ out t = (t ≤ 128) × (length out ≡ 128) × ((k : ℕ) → k < t → At next (has row k) (toZ w32 there) (toZ w32 back) k (has out k))
+Inv-loop next there back row out₀ t₀ out t = (t ≤ 128) × (length out ≡ 128) × ((k : ℕ) → k < t → At next (has row k) (toZ w32 there) (toZ w32 back) k (has out k))
 
 abbrev μ-loop : tie.MeasureT-loop
-μ-loop there back next row out₀ t₀ out t = 128 - t
+μ-loop next there back row out₀ t₀ out t = 128 - t
 
 loop-holds : tie.Need-loop-holds Inv-loop μ-loop
 loop-holds c = (omega arith, search needs, λ k l. absurd (omega arith))
@@ -37,8 +37,8 @@ high-end-if-requires c κs = search needs
 mul-under : tie.Need-mul-under Inv-loop μ-loop
 mul-under c = search needs
 
-array-read-under : tie.Need-array-read-under Inv-loop μ-loop
-array-read-under c = search needs
+element-copy-out-under : tie.Need-element-copy-out-under Inv-loop μ-loop
+element-copy-out-under c = search needs
 
 under-requires : tie.Need-under-requires Inv-loop μ-loop
 under-requires c κs = search needs
@@ -53,11 +53,11 @@ loop-less : tie.Need-loop-less Inv-loop μ-loop
 loop-less c = search needs
 
 loop-again : tie.Need-loop-again Inv-loop μ-loop
-loop-again c = let l = c .before .before .before .before .loop in let s = c .before .before .before .before .before in (
+loop-again c = let l = c .before .before .before .before .before .loop in let s = c .before .before .before .before .before .before in (
   omega arith,
   simp length-set (l .inv .1),
-  store-more (λ k z. At (s .args .t1) (has (s .args .t2) k) (toZ w32 (ofZ w32 (s .args .there))) (toZ w32 (ofZ w32 (s .args .back))) k z) (l .out) (l .t) _ false (omega (arith, l .inv .1))
-      (supported-at _ _ (c .before .before .low-end-if .ensures) (c .before .high-end-if .ensures) (c .under .ensures)) (l .inv .2),
+  store-more (λ k z. At (s .args .next .now) (has (s .args .t2) k) (toZ w32 (ofZ w32 (s .args .there))) (toZ w32 (ofZ w32 (s .args .back))) k z) (l .out) (l .t) _ false (omega (arith, l .inv .1))
+      (supported-at _ _ (c .before .before .before .low-end-if .ensures) (c .before .before .high-end-if .ensures) (c .under .ensures)) (l .inv .2),
 )
 
 returns : tie.Need-returns Inv-loop μ-loop
@@ -75,7 +75,7 @@ supported-spec =
     low-end-if-requires
     high-end-if-requires
     mul-under
-    array-read-under
+    element-copy-out-under
     under-requires
     array-write-out
     add-t
