@@ -6,7 +6,7 @@
 
 All times are processor time. The product is called through its C archive in one process (bench/times.c), so
 its times have no start-up in them. From a solver's time that of the same solver on a question with nothing to
-do is taken off. Beside the solvers each time, ours too, is the least of five runs. Solvers decide feasibility only, and are asked only from the greater of the two bounds to the
+do is taken off. Each time, ours and theirs, is the least of five runs. Solvers decide feasibility only, and are asked only from the greater of the two bounds to the
 least interval: below the bounds counting or a loop of edges refuses at once. The product gives the first plan.
 """
 
@@ -39,7 +39,7 @@ def times(count):
     for family in loops.FAMILIES:
         made = [loops.sheet_of(family, seed) for seed in range(count)]
         texts = [sheet_text(s) for s in made]
-        rows = measure.rows_of(program, texts, measure.search_nodes(program, texts))
+        rows = measure.least_rows(program, texts, measure.search_nodes(program, texts))
         took = [row[2] for of_sheet in rows for row in of_sheet]
         hard = [row for _, row in from_the_bounds(made, rows)]
         nodes = counted([row[3] for row in hard if len(row) > 3])
@@ -58,7 +58,7 @@ def beside(count, seed):
     program = measure.times_program()
     for family in loops.FAMILIES:
         made = [loops.sheet_of(family, seed + k) for k in range(count)]
-        asked = from_the_bounds(made, measure.least_rows(program, [sheet_text(s) for s in made], solvers.RUNS))
+        asked = from_the_bounds(made, measure.least_rows(program, [sheet_text(s) for s in made]))
         print("%s: %d questions" % (family, len(asked)))
         print("  leastplan  " + milliseconds([row[2] for _, row in asked]), flush=True)
         for solver in present:

@@ -15,6 +15,7 @@ from stored import framed
 
 BUILT = os.path.join(product.ROOT, "target", "tests")
 NO_INTERVAL = 4
+RUNS = 5
 
 
 def times_program():
@@ -42,11 +43,11 @@ def rows_of(program, texts, extra=()):
     return rows
 
 
-def least_rows(program, texts, runs):
-    """The same, with the least seconds of several runs."""
-    every = [rows_of(program, texts) for _ in range(runs)]
+def least_rows(program, texts, extra=()):
+    """The same, with the least seconds of several runs: what else the machine does slows single runs down."""
+    every = [rows_of(program, texts, extra) for _ in range(RUNS)]
     return [
-        [(interval, answer, min(one[k][2] for one in of_sheet)) for k, (interval, answer, _) in enumerate(of_sheet[0])]
+        [(*row[:2], min(one[k][2] for one in of_sheet), *row[3:]) for k, row in enumerate(of_sheet[0])]
         for of_sheet in zip(*every)
     ]
 

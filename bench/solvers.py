@@ -13,10 +13,10 @@ import subprocess
 import tempfile
 
 import encodings_of_plans as encodings
+import measure
 
 HERE = os.path.dirname(os.path.abspath(__file__))
 LIMIT = 10
-RUNS = 5
 QUICK = 0.3  # seconds; a question that takes longer is asked once
 
 
@@ -36,7 +36,7 @@ class Solver:
             path = os.path.join(folder, "plan" + self.suffix)
             self.write(sheet, interval, path)
             said, least = self.run(path)
-            for _ in range(RUNS - 1):
+            for _ in range(measure.RUNS - 1):
                 if least > QUICK:
                     break
                 least = min(least, self.run(path)[1])

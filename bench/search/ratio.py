@@ -1,5 +1,5 @@
 #!/usr/bin/env python3
-"""The product beside the plain search (plain.rs): the same sheets, the same intervals, in one run, by processor time.
+"""The product beside the plain search (plain.rs): the same sheets, the same intervals, in one run, by processor time (the least of five).
 
     ratio.py [SHEETS [SEED]]
 
@@ -36,8 +36,8 @@ def printed_starts(text):
 
 def family_row(times, plain, family, count, seed):
     texts = [sheet_text(loops.sheet_of(family, seed + k)) for k in range(count)]
-    ours = measure.rows_of(times, texts, measure.search_nodes(times, texts))
-    theirs = measure.rows_of(plain, texts)
+    ours = measure.least_rows(times, texts, measure.search_nodes(times, texts))
+    theirs = measure.least_rows(plain, texts)
     for text, a, b in zip(texts, ours, theirs):
         starts = "".join(b[-1][4:])
         if [row[:2] for row in a] != [row[:2] for row in b] or printed_starts(text) != starts:
