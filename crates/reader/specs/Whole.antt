@@ -60,15 +60,17 @@ module _ (bs : List ℕ) (h : length bs ≤ 4096) where
 pub filled-length : {A : Type 0} {size : ℕ} {d : A} {n : ℕ} {es : List A} → Filled size d n es → length (take n es) ≡ n
 filled-length {n = n} {es = es} f = length-take-le n es (omega (arith, f .long, f .few))
 
+-- 0 with the sheet that has these numbers and arrays
+abbrev pub asRead : ℕ → ℕ → ℕ → ℕ → ℕ → List ResourceType → List Operation → List Edge → ReadAnswer
+asRead horizon cap r n e types ops edges = record {
+  answer = 0;
+  sheet = record { horizon = horizon; cap = cap; «type_count» = r; types = types; «op_count» = n; ops = ops; «edge_count» = e; edges = edges };
+}
+
 -- the sheet as the code makes it
 pub made : (horizon cap t o e : ℕ) (types : List ResourceType) (ops : List Operation) (edges : List Edge)
     → Filled 8 noType t types → Filled 24 noOperation o ops → Filled 96 noEdge e edges
-    → _≡_ {A = ReadAnswer}
-    (record {
-      answer = 0;
-      sheet = record { horizon = horizon; cap = cap; «type_count» = t; types = types; «op_count» = o; ops = ops; «edge_count» = e; edges = edges };
-    })
-    (accepted (sheetOf horizon cap (take t types) (take o ops) (take e edges)))
+    → asRead horizon cap t o e types ops edges ≡ accepted (sheetOf horizon cap (take t types) (take o ops) (take e edges))
 made horizon cap t o e types ops edges ft fo fe = λ i. record {
   answer = 0;
   sheet = record {

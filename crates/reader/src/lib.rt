@@ -1,12 +1,16 @@
 // Reads a loop sheet from bytes: question 1, then line by line questions 2 and 3.
 ghost use mathlib.Core.Path.{_≡_};
 ghost use Rattle.reader.specs.Read.{readOf, refusal};
+ghost use Rattle.reader.specs.Whole.{asRead};
 
 mod lines;
 mod sections;
 
 use crate::lines::MALFORMED;
 use crate::lines::read_number;
+use crate::sections::EdgesRead;
+use crate::sections::OpsRead;
+use crate::sections::TypesRead;
 use crate::sections::read_edges;
 use crate::sections::read_ops;
 use crate::sections::read_types;
@@ -62,6 +66,34 @@ fn refuse(answer: usize) -> ReadAnswer
     }
 }
 
+// The sheet of what was read.
+fn accept(
+    horizon: usize,
+    cap: usize,
+    types: TypesRead,
+    ops: OpsRead,
+    edges: EdgesRead,
+) -> ReadAnswer
+    ensures { λ r. ⌜ r ≡ asRead horizon cap (types .count) (ops .count) (edges .count) (types .entries) (ops .entries) (edges .entries) ⌝ }
+{
+    let type_entries = types.entries;
+    let op_entries = ops.entries;
+    let edge_entries = edges.entries;
+    ReadAnswer {
+        answer: 0,
+        sheet: Sheet {
+            horizon,
+            cap,
+            type_count: types.count,
+            types: type_entries,
+            op_count: ops.count,
+            ops: op_entries,
+            edge_count: edges.count,
+            edges: edge_entries,
+        },
+    }
+}
+
 // The sheet whose text these bytes are, or the number of the refusal.
 pub fn read(bytes: &[u8]) -> ReadAnswer
     ensures { λ r. ⌜ r ≡ readOf (now (bytes .entry)) ⌝ }
@@ -92,20 +124,5 @@ pub fn read(bytes: &[u8]) -> ReadAnswer
     if edges.next < bytes.len() {
         return refuse(MALFORMED);
     }
-    let type_entries = types.entries;
-    let op_entries = ops.entries;
-    let edge_entries = edges.entries;
-    ReadAnswer {
-        answer: 0,
-        sheet: Sheet {
-            horizon: horizon.value,
-            cap: cap.value,
-            type_count: types.count,
-            types: type_entries,
-            op_count: ops.count,
-            ops: op_entries,
-            edge_count: edges.count,
-            edges: edge_entries,
-        },
-    }
+    accept(horizon.value, cap.value, types, ops, edges)
 }

@@ -129,18 +129,22 @@ returns-7 c =
     ∙ sym (something-more _ h _ _ (horizon-found m) _ _ (cap-found t) _ _ (types-found o) _ (filled-length (t .read-types .ensures .1)) _ _ (ops-found e) _ (filled-length (o .read-ops .ensures .1)) _ _
     (is-found (e .read-edges .ensures .0) (c .before .before .before .if6 .left)) _ _ (drop-cons s (e .read-edges .result .next) 0 (c .before .if7 .taken)))
 
+accept-requires : tie.Need-accept-requires
+accept-requires c κs = search needs
+
 returns-8 : tie.Need-returns-8
 returns-8 c =
-    let e = c .before .before .before .before .before .before .before in
+    let e = c .before .before .before .before .before in
     let o = e .before .before .before in
     let t = o .before .before .before in
     let m = t .before .before .before in
     let n = m .before .before .before .before in
     let h = n .before .before .if1 .left in
     let s = n .before .before .before .before .args .bytes .now in
-    made _ _ _ _ _ _ _ _ (t .read-types .ensures .1) (o .read-ops .ensures .1) (e .read-edges .ensures .1)
+    c .accept .ensures
+    ∙ made _ _ _ _ _ _ _ _ (t .read-types .ensures .1) (o .read-ops .ensures .1) (e .read-edges .ensures .1)
     ∙ sym (whole _ h _ _ (horizon-found m) _ _ (cap-found t) _ _ (types-found o) _ (filled-length (t .read-types .ensures .1)) _ _ (ops-found e) _ (filled-length (o .read-ops .ensures .1)) _ _
-    (is-found (e .read-edges .ensures .0) (c .before .before .before .before .before .if6 .left)) (drop-of-length-le s (c .before .before .before .if7 .left)))
+    (is-found (e .read-edges .ensures .0) (c .before .before .before .if6 .left)) (drop-of-length-le s (c .before .if7 .left)))
 
 pub read-spec : {M : Type 1} → statement M
 read-spec =
@@ -167,4 +171,5 @@ read-spec =
     returns-6
     refuse-requires-7
     returns-7
+    accept-requires
     returns-8)
