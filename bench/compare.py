@@ -4,10 +4,11 @@
     compare.py times [SHEETS]             the product alone: each interval that leastplan asks about
     compare.py solvers [SHEETS [SEED]]    beside the solvers that are installed
 
-All times are processor time. The product is called through its C archive in one process (bench/times.c), so
-its times have no start-up in them. From a solver's time that of the same solver on a question with nothing to
-do is taken off. Each time, ours and theirs, is the least of five runs. Solvers decide feasibility only, and are asked only from the greater of the two bounds to the
-least interval: below the bounds counting or a loop of edges refuses at once. The product gives the first plan.
+All times are processor time. The product is called through its C archive in one process (bench/times.c), so its
+times have no start-up in them; they are the least of five runs. From a solver's time that of the same solver on a
+question with nothing to do is taken off (bench/solvers.py). Solvers decide feasibility only, and are asked only
+from the greater of the two bounds to the least interval: below the bounds counting or a loop of edges refuses at
+once. The product gives the first plan.
 """
 
 import statistics
@@ -17,9 +18,7 @@ import loops
 import measure
 import solvers
 from measure import counted, milliseconds, percentile
-from reference import Sheet, resource_bound, sheet_text
-
-NOTHING = Sheet(1, 1, [(1, 1)], [0], [])
+from reference import resource_bound, sheet_text
 
 
 def from_the_bounds(made, rows):
@@ -47,14 +46,8 @@ def times(count):
         print("| %s | %d | %d | %s | %d | %s | %s | %d |" % (*cells, sum(t > 1 for t in took)), flush=True)
 
 
-def start_up(solver):
-    return min(solver.solve(NOTHING, 1)[1] for _ in range(9))
-
-
 def beside(count, seed):
     present = [s for s in solvers.SOLVERS if s.installed()]
-    base = {s.name: start_up(s) for s in present}
-    print("start-up taken off, ms: " + ", ".join("%s %.1f" % (n, 1000 * t) for n, t in base.items()))
     program = measure.times_program()
     for family in loops.FAMILIES:
         made = [loops.sheet_of(family, seed + k) for k in range(count)]
@@ -62,20 +55,21 @@ def beside(count, seed):
         print("%s: %d questions" % (family, len(asked)))
         print("  leastplan  " + milliseconds([row[2] for _, row in asked]), flush=True)
         for solver in present:
-            compare_one(solver, base[solver.name], asked)
+            compare_one(solver, asked)
 
 
-def compare_one(solver, off, asked):
-    took, wrong, late = [], 0, 0
+def compare_one(solver, asked):
+    took, off, wrong, late = [], [], 0, 0
     for sheet, (interval, answer, _) in asked:
-        said, seconds = solver.solve(sheet, interval)
+        said, seconds, start_up = solver.solve(sheet, interval)
         late += said == "none"
         wrong += said != "none" and (said == "sat") != (answer == 0)
-        took.append(max(1e-6, seconds - off))
+        took.append(max(1e-6, seconds - start_up))
+        off.append(start_up)
     own = [row[2] for _, row in asked]
     ratios = statistics.median(took) / statistics.median(own), percentile(took, 0.95) / percentile(own, 0.95)
-    row = (solver.name, milliseconds(took), *ratios, late, wrong)
-    print("  %-9s  %s   ratio at the median %.1f, at 95 %% %.1f; past the limit %d, other answers %d" % row, flush=True)
+    row = (solver.name, milliseconds(took), *ratios, 1000 * statistics.median(off), late, wrong)
+    print("  %-9s  %s   ratio at the median %.1f, at 95 %% %.1f; start-up %.1f; past the limit %d, other answers %d" % row, flush=True)
 
 
 def main():

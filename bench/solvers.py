@@ -1,6 +1,7 @@
 """Runs general exact solvers on one interval question: sat, unsat or none (time limit), with seconds of processor time.
 
-The time is the least of several runs: the start-up of a process varies by more than an easy question takes.
+A time is the least of several runs, and start-up is taken off: the least of as many runs on a question with nothing to
+do, in turn with the others, since the start-up of a process varies by more than an easy question takes.
 
 A solver is optional: one that is not installed is left out. Debian's packages: minizinc and flatzinc
 (gecode), cadical, clasp, z3, coinor-cbc.
@@ -13,10 +14,13 @@ import subprocess
 import tempfile
 
 import encodings_of_plans as encodings
-import measure
+import measure  # finds tests/ too
+from reference import Sheet
 
 HERE = os.path.dirname(os.path.abspath(__file__))
+NOTHING = Sheet(1, 1, [(1, 1)], [0], [])
 LIMIT = 10
+RUNS = 9
 QUICK = 0.3  # seconds; a question that takes longer is asked once
 
 
@@ -31,16 +35,18 @@ class Solver:
         return shutil.which(self.program) is not None
 
     def solve(self, sheet, interval):
-        """("sat" | "unsat" | "none", seconds of processor time of the solver's process)"""
+        """("sat" | "unsat" | "none", seconds of processor time, seconds of start-up in it)"""
         with tempfile.TemporaryDirectory() as folder:
-            path = os.path.join(folder, "plan" + self.suffix)
+            path, nothing = os.path.join(folder, "plan" + self.suffix), os.path.join(folder, "nothing" + self.suffix)
             self.write(sheet, interval, path)
-            said, least = self.run(path)
-            for _ in range(measure.RUNS - 1):
-                if least > QUICK:
+            self.write(NOTHING, 1, nothing)
+            said, took = self.run(path)
+            start_up = self.run(nothing)[1]
+            for _ in range(RUNS - 1):
+                if took > QUICK:
                     break
-                least = min(least, self.run(path)[1])
-            return said, least
+                took, start_up = min(took, self.run(path)[1]), min(start_up, self.run(nothing)[1])
+            return said, took, start_up
 
     def run(self, path):
         before = children_time()
