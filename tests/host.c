@@ -6,20 +6,9 @@
 #include <string.h>
 
 #include "leastplan.h"
+#include "expect.h"
 
 enum { LONGEST = 4096, FILL = 0x5A };
-
-static int failures, checks;
-
-static void expect(int good, const char *what, int line)
-{
-    checks++;
-    if (!good) {
-        failures++;
-        printf("FAIL host.c:%d: %s\n", line, what);
-    }
-}
-#define EXPECT(fact) expect((fact), #fact, __LINE__)
 
 /* The cases of document 01. */
 static const char A[] =

@@ -7,6 +7,8 @@
 #include <stdlib.h>
 #include <string.h>
 
+#include "expect.h"
+
 /* The structs of crates/sheet and crates/placing. */
 struct resource_type { size_t instances, latency; };
 struct operation { size_t resource; };
@@ -23,18 +25,6 @@ struct placement { bool placed; size_t start, instance; };
 struct table { struct placement entries[24]; };
 struct outcome { size_t answer, instance; };
 extern struct outcome leastplan_place_into(struct table *, struct sheet, size_t interval, size_t op, size_t start);
-
-static int failures, checks;
-
-static void expect(int good, const char *what, int line)
-{
-    checks++;
-    if (!good) {
-        failures++;
-        printf("FAIL placing.c:%d: %s\n", line, what);
-    }
-}
-#define EXPECT(fact) expect((fact), #fact, __LINE__)
 
 /* Operations 0, 1 and 3 are rivals with two instances, 2 is of an unlimited type; starts 0 to 3, intervals 1 to 3. */
 static const struct sheet FOUR = {
