@@ -1,5 +1,5 @@
 #!/usr/bin/env python3
-"""Inputs and expected outputs for crates/dependence_cases, by enumeration of walks.
+"""Inputs and expected outputs for crates/test_dependence, by enumeration of walks.
 
 Independent of the Rattle crates: walks are lists of edge numbers, tried by length and, within a
 length, in the order of the lists, and every answer is a sum or a greatest over them. Nothing is
@@ -10,7 +10,7 @@ Why walks of at most N edges are enough: a longer walk passes an operation twice
 is a closed walk. If none of those is bad, cutting it out leaves a sum that is no smaller; if one is
 bad, a shorter bad closed walk exists.
 
-As a program:  dependence_reference.py      writes crates/dependence_cases/stdin and stdout
+As a program:  dependence_reference.py      writes crates/test_dependence/stdin and stdout
                dependence_reference.py -n   compares them with what stands there
 """
 
@@ -208,7 +208,7 @@ def pieces():
 
 
 def main():
-    there = os.path.join(os.path.dirname(os.path.abspath(__file__)), "..", "crates", "dependence_cases")
+    there = os.path.join(os.path.dirname(os.path.abspath(__file__)), "..", "crates", "test_dependence")
     stdin, stdout = "", ""
     for number, (piece, lines) in enumerate(pieces()):
         stdin += f"bytes={len(piece)}\n{piece}"

@@ -1,6 +1,6 @@
-"""Scripts for placing_cases, and what it prints for them by the reference.
+"""Scripts for test_placing, and what it prints for them by the reference.
 
-A script is a list of lines (key, numbers); crates/placing_cases/src/script.rt says what each does.
+A script is a list of lines (key, numbers); crates/test_placing/src/script.rt says what each does.
 """
 
 import itertools

@@ -1,7 +1,7 @@
 #!/usr/bin/env python3
-"""Makes the stored inputs and outputs of leastplan, sheet_cases, plan_cases, placing_cases and order_cases, from the reference.
+"""Makes the stored inputs and outputs of leastplan, test_sheet, test_plan, test_placing and test_order, from the reference.
 
-That of leastplan is case A of document 01, that of order_cases has a case a line. The others are runs of pieces, each a line bytes=N and N bytes: a sheet, and for placing_cases
+That of leastplan is case A of document 01, that of test_order has a case a line. The others are runs of pieces, each a line bytes=N and N bytes: a sheet, and for test_placing
 a sheet and a script by turns; the outputs have a line -- before the answer to each sheet. As a program:  stored.py   writes the files anew.
 """
 
@@ -51,7 +51,7 @@ def marked(answers):
 
 
 def read_answer(piece):
-    """What sheet_cases prints for a piece: the answer, then the text written back and the writer's 9 in a short buffer."""
+    """What test_sheet prints for a piece: the answer, then the text written back and the writer's 9 in a short buffer."""
     answer, sheet = ref.read_sheet(piece)
     return b"answer=%d\n" % answer + (b"" if answer else b"written=0\n" + ref.sheet_text(sheet) + b"written=9\n")
 
@@ -266,14 +266,14 @@ def stored_files():
     pairs, verdicts = orders.stored()
     yield "crates/leastplan/stdin", case_a
     yield "crates/leastplan/stdout", ref.leastplan(case_a)
-    yield "crates/sheet_cases/stdin", framed(reads)
-    yield "crates/sheet_cases/stdout", marked(read_answer(p) for p in reads)
-    yield "crates/placing_cases/stdin", framed(pieces)
-    yield "crates/placing_cases/stdout", marked(answers)
-    yield "crates/order_cases/stdin", pairs
-    yield "crates/order_cases/stdout", verdicts
-    yield "crates/plan_cases/stdin", framed(plans)
-    yield "crates/plan_cases/stdout", marked(ref.leastplan(p) for p in plans)
+    yield "crates/test_sheet/stdin", framed(reads)
+    yield "crates/test_sheet/stdout", marked(read_answer(p) for p in reads)
+    yield "crates/test_placing/stdin", framed(pieces)
+    yield "crates/test_placing/stdout", marked(answers)
+    yield "crates/test_order/stdin", pairs
+    yield "crates/test_order/stdout", verdicts
+    yield "crates/test_plan/stdin", framed(plans)
+    yield "crates/test_plan/stdout", marked(ref.leastplan(p) for p in plans)
 
 
 def main():

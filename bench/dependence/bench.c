@@ -16,7 +16,7 @@ struct walk { size_t answer, loop_length, loop_edges[OPS]; };
 struct bound { size_t answer, value; };
 struct floor { size_t at[OPS]; };
 
-// ---- the crate, by crates/dependence_bench
+// ---- the crate, by crates/bench_dependence
 
 extern bool dependence_in_range(struct graph);
 extern struct starts dependence_earliest(struct graph, size_t, struct floor);

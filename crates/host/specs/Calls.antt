@@ -8,7 +8,7 @@ use Rattle.sheet.specs.declared.Sheet.{Sheet}
 use Rattle.reader.specs.declared.ReadAnswer.{ReadAnswer}
 use Rattle.reader.specs.Read.{readOf}
 use Rattle.plan.specs.declared.IntervalAnswer.{IntervalAnswer}
-use Rattle.plan.specs.Answers.{Least}
+use Rattle.plan.specs.Answers.{LeastInterval}
 use Rattle.report.specs.declared.PlanWritten.{PlanWritten}
 use Rattle.report.specs.PlanText.{PlanText}
 use Rattle.slot_order.specs.declared.SlotOrder.{SlotOrder}
@@ -18,7 +18,7 @@ use Rattle.host.specs.declared.OrderAnswer.{OrderAnswer}
 -- least interval
 pub data LeastOf (bytes : List ℕ) : IntervalAnswer → Type 0 where
   unread : (readOf bytes .answer ≡ 0 → ⊥) → LeastOf bytes (record { answer = readOf bytes .answer; interval = 0 })
-  served : readOf bytes .answer ≡ 0 → {r : IntervalAnswer} → Least (readOf bytes .sheet) r → LeastOf bytes r
+  served : readOf bytes .answer ≡ 0 → {r : IntervalAnswer} → LeastInterval (readOf bytes .sheet) r → LeastOf bytes r
 
 -- a plan writer's answer without the edges
 abbrev pub textAnswer : PlanWritten → Written
@@ -46,8 +46,8 @@ module _ (bytes : List ℕ) {q : ReadAnswer} (e : q ≡ readOf bytes) where
   pub least-unread : (q .answer ≡ 0 → ⊥) → LeastOf bytes (record { answer = q .answer; interval = 0 })
   least-unread n = subst (λ (k : ℕ). LeastOf bytes (record { answer = k; interval = 0 })) (sym same-answer) (unread (λ z. n (same-answer ∙ z)))
 
-  pub least-served : q .answer ≡ 0 → {r : IntervalAnswer} → Least (q .sheet) r → LeastOf bytes r
-  least-served z {r} l = served (sym same-answer ∙ z) (subst (λ (s : Sheet). Least s r) (ap (λ (x : ReadAnswer). x .sheet) e) l)
+  pub least-served : q .answer ≡ 0 → {r : IntervalAnswer} → LeastInterval (q .sheet) r → LeastOf bytes r
+  least-served z {r} l = served (sym same-answer ∙ z) (subst (λ (s : Sheet). LeastInterval s r) (ap (λ (x : ReadAnswer). x .sheet) e) l)
 
   pub text-unread : {L : ℕ} {old : List ℕ} → (q .answer ≡ 0 → ⊥) → PlanTextOf bytes L old (line.refused (q .answer)) old
   text-unread {L} {old} n = subst (λ (k : ℕ). PlanTextOf bytes L old (line.refused k) old) (sym same-answer) (unread-text (λ z. n (same-answer ∙ z)))

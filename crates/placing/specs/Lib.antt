@@ -4,3 +4,4 @@ pub mod Entries
 pub mod Room
 pub mod Keeps
 pub mod Unique
+pub mod Change

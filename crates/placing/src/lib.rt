@@ -1,9 +1,10 @@
 // The placing table (modulo reservation table) of a sheet at an interval: which operations are placed, at which start, on which instance.
 ghost use Prim.Native.Nat.{ℕ, _≤_, _<_};
 ghost use mathlib.Core.Path.{_≡_};
-ghost use Rattle.dependence.specs.Graph.{Says};
+ghost use Rattle.laws.specs.Says.{Says};
 ghost use Rattle.placing.specs.Table.{placementAt, Placed, EntryAllowed, Taken, Untaken, Apart, Consistent, Target};
 ghost use Rattle.placing.specs.Answers.{NewAt, PlaceAt, whole};
+ghost use Rattle.placing.specs.Change.{changed};
 ghost use Rattle.placing.specs.Room.{Room, FirstUntaken};
 use sheet::MOST_OPERATIONS;
 use sheet::MOST_TYPES;
@@ -282,7 +283,40 @@ pub struct Outcome {
     pub instance: usize,
 }
 
-// The same on a table that the caller keeps, in Rattle or in C: it stores the operation's start and instance there, and nothing with a refusal.
+// What a placing answers, and the one entry that it stores: the operation's or, with a refusal, one as it stands.
+struct Change {
+    answer: usize,
+    instance: usize,
+    at: usize,
+    entry: Placement,
+}
+
+// The place of an operation's entry; 0 for an operation that the table lacks.
+fn entry_place(op: usize) -> usize
+    ensures { λ r. ⌜ (r < 24) × (op < 24 → r ≡ op) ⌝ }
+{
+    if op < MOST_OPERATIONS {
+        return op;
+    }
+    0
+}
+
+fn entry_change(sheet: Sheet, interval: usize, table: Table, op: usize, start: usize) -> Change
+    ensures { λ r. ⌜ (r .at < 24) × PlaceAt sheet interval table op start (changed table r) ⌝ }
+{
+    let r = place(sheet, interval, table, op, start);
+    let after = r.table;
+    let at = entry_place(op);
+    let entry = after.entries[at];
+    Change {
+        answer: r.answer,
+        instance: r.instance,
+        at,
+        entry,
+    }
+}
+
+// The same on a table that the caller keeps, in Rattle or in C: it stores the operation's start and instance there; with a refusal the table holds what it held.
 #[no_mangle]
 pub extern "C" fn leastplan_place_into(
     table: &mut Table,
@@ -294,8 +328,9 @@ pub extern "C" fn leastplan_place_into(
     ensures { λ r. ⌜ PlaceAt sheet interval (now (table .entry)) op start (whole r (now (table .exit))) ⌝ }
 {
     let t = *table;
-    let r = place(sheet, interval, t, op, start);
-    *table = r.table;
+    let r = entry_change(sheet, interval, t, op, start);
+    let at = r.at;
+    table.entries[at] = r.entry;
     Outcome {
         answer: r.answer,
         instance: r.instance,

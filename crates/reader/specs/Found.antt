@@ -1,7 +1,6 @@
 -- Reading lines from the front of the bytes: what is found and what follows it, or the number of a refusal.
 use Prim.Native.Nat.{ℕ, zero, suc, _-_}
 use mathlib.Core.List.{List, [], _∷_, _++_}
-use mathlib.Core.Bool.{Bool, cond}
 use lib.IntN.{ℤ}
 use lib.ListN.{length, replicate}
 use Rattle.scan.specs.Line.{onFields, lineOf}
@@ -17,20 +16,25 @@ andThen (found a rest) f = f a rest
 andThen (refused n) f = refused n
 
 -- A kind of line: its key, how many numbers it has, the place of the one that may carry a minus, the entry that the numbers stand for,
--- the numbers of an entry, and whether each is in its range.
+-- the numbers of an entry, and what an entry answers: 0, or the number of a refusal.
 pub record Kind (A : Type 0) : Type 0 where
   pub key : List ℕ
   pub count : ℕ
   pub minus : ℕ
   pub make : List ℤ → A
   pub values : A → List ℤ
-  pub inside : A → Bool
+  pub answer : A → ℕ
 
--- one line: well formed and under the due key, else 2; then each number in its range, else 3
+-- what is found where the answer is 0; else the answer is the refusal
+abbrev pub judged : {A : Type 0} → ℕ → A → List ℕ → Found A
+judged zero a rest = found a rest
+judged (suc n) a rest = refused (suc n)
+
+-- one line: well formed and under the due key, else 2; then what its entry answers
 unfoldable pub lineFrom : {A : Type 0} → Kind A → List ℕ → Found A
 lineFrom k bs =
     onFields (lineOf (k .key) (k .count) (k .minus) bs)
-    (λ vs rest. cond (k .inside (k .make vs)) (found (k .make vs) rest) (refused 3))
+    (λ vs rest. judged (k .answer (k .make vs)) (k .make vs) rest)
     (refused 2)
 
 -- n lines more, after the entries es

@@ -2,6 +2,5 @@ pub mod Found
 pub mod Kinds
 pub mod Read
 pub mod Seen
-pub mod Decide
 pub mod Steps
 pub mod Whole

@@ -2,14 +2,12 @@
 use Prim.Native.Nat.{ℕ, _≤_}
 use mathlib.Core.Path.{_≡_}
 use mathlib.Core.List.{List}
-use mathlib.Core.Bool.{cond}
-use lib.Dec.{eqb}
 use lib.ListN.{length, drop, take}
-use Rattle.reader.specs.Found.{Found, found, refused, padded}
+use Rattle.reader.specs.Found.{Found, judged, padded}
 
 -- the answer and, where it is 0, what was found and the place after it
 unfoldable pub seen : {A : Type 0} → List ℕ → ℕ → A → ℕ → Found A
-seen s answer a next = cond (eqb answer 0) (found a (drop next s)) (refused answer)
+seen s answer a next = judged answer a (drop next s)
 
 -- what the code has is what the definition `want` finds, and its place lies within the bytes
 pub record Reads {A : Type 0} (s : List ℕ) (answer : ℕ) (a : A) (next : ℕ) (want : Found A) : Type 0 where

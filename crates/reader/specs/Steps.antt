@@ -7,23 +7,22 @@ use Prim.Native.Nat.{ℕ, zero, suc, _+_, _-_, _≤_, _<_}
 use native.Mathlib.Nat.{sub-zero}
 use native.Mathlib.Numerals.{add-one}
 use native.Mathlib.Omega.{arith}
-use lib.Dec.{T, eqb}
+use lib.Dec.{T}
 use lib.IntN.{ℤ, pos, negsuc, natAbs}
 use lib.ListN.{length, drop, take, getD, set, replicate, length-append, length-set, length-replicate}
 use lib.Seq.{take-suc-set, set-append-seam, getD-take, length-take-le}
 use lib.Signed.{nonNeg}
 use mir.Syntax.{w32, w64}
 use mir.Val.{SFits, Fits, toZ, ofZ}
-use borrow.Author.Tests.{not-true, not-false, eq-eqb, ne-eqb}
+use borrow.Author.Tests.{not-true, not-false, ne-eqb}
 use Rattle.laws.specs.Z.{kept, true-false, four-digits}
 use Rattle.scan.specs.declared.Line.{Line}
 use Rattle.scan.specs.Line.{Fields, fields, bad, lineOf, seenLine, LineFits}
-use Rattle.scan.specs.Bytes.{by-test}
 use Rattle.scan.specs.RoundTrip.{isNegative, MayStand, Writable, line-text}
 use Rattle.sheet.specs.Ranges.{Inside}
+use Rattle.sheet.specs.AnswerLaws.{number-judged}
 use Rattle.reader.specs.Kinds.{numberKind}
-use Rattle.reader.specs.Decide.{inside-says}
-use Rattle.reader.specs.Found.{Found, found, refused, Kind, lineFrom, linesFrom, sectionFrom}
+use Rattle.reader.specs.Found.{Found, found, refused, judged, Kind, lineFrom, linesFrom, sectionFrom}
 use Rattle.reader.specs.Seen.{seen, Reads, Filled, Refuses, Entries}
 
 -- ---- numbers of a line
@@ -52,23 +51,28 @@ seen-bad : (s : List ℕ) (k : ℕ) (l : Line) {n : Fields} → seenLine s k l �
 unfolding seenLine
 seen-bad s k l e t = sym e ∙ rw t
 
+judged-no : {A : Type 0} (n : ℕ) (a : A) (rest : List ℕ) → (n ≡ 0 → ⊥) → judged n a rest ≡ refused n
+judged-no zero a rest h = absurd (h refl)
+judged-no (suc n) a rest h = refl
+
 seen-zero : {A : Type 0} (s : List ℕ) (a : A) (next : ℕ) → seen s 0 a next ≡ found a (drop next s)
 unfolding seen
 seen-zero s a next = refl
 
 seen-other : {A : Type 0} (s : List ℕ) (answer : ℕ) (a : A) (next : ℕ) → (answer ≡ 0 → ⊥) → seen s answer a next ≡ refused answer
 unfolding seen
-seen-other s answer a next n = rw (ne-eqb answer 0 n)
+seen-other s answer a next n = judged-no answer a (drop next s) n
 
 line-bad : {A : Type 0} (k : Kind A) (bs : List ℕ) → lineOf (k .key) (k .count) (k .minus) bs ≡ bad → lineFrom k bs ≡ refused 2
 unfolding lineFrom
 line-bad k bs e = rw e
 
-pub line-out : {A : Type 0} (k : Kind A) (bs : List ℕ) (vs : List ℤ) (rest : List ℕ) → lineOf (k .key) (k .count) (k .minus) bs ≡ fields vs rest → k .inside (k .make vs) ≡ false → lineFrom k bs ≡ refused 3
+pub line-out : {A : Type 0} (k : Kind A) (bs : List ℕ) (vs : List ℤ) (rest : List ℕ) → lineOf (k .key) (k .count) (k .minus) bs ≡ fields vs rest → (k .answer (k .make vs) ≡ 0 → ⊥)
+    → lineFrom k bs ≡ refused (k .answer (k .make vs))
 unfolding lineFrom
-line-out k bs vs rest e f = rw (e, f)
+line-out k bs vs rest e f = rw e (judged-no (k .answer (k .make vs)) (k .make vs) rest f)
 
-pub line-in : {A : Type 0} (k : Kind A) (bs : List ℕ) (vs : List ℤ) (rest : List ℕ) → lineOf (k .key) (k .count) (k .minus) bs ≡ fields vs rest → k .inside (k .make vs) ≡ true → lineFrom k bs ≡ found (k .make vs) rest
+pub line-in : {A : Type 0} (k : Kind A) (bs : List ℕ) (vs : List ℤ) (rest : List ℕ) → lineOf (k .key) (k .count) (k .minus) bs ≡ fields vs rest → k .answer (k .make vs) ≡ 0 → lineFrom k bs ≡ found (k .make vs) rest
 unfolding lineFrom
 line-in k bs vs rest e f = rw (e, f)
 
@@ -108,15 +112,17 @@ module _ {A : Type 0} (k : Kind A) (s bs : List ℕ) (l : Line) (e : seenLine s 
         rw q (plain-nat v (not-negative i h n))
 
     module _ (a : A) (made : a ≡ k .make (take (k .count) (l .values))) where
-      pub out-of-range : (none : A) → k .inside a ≡ false → Reads s 3 none 0 (lineFrom k bs)
-      out-of-range none f = record {
-        same = seen-other s 3 none 0 (λ z. absurd (omega arith)) ∙ sym (line-out k bs _ _ got (ap (k .inside) (sym made) ∙ f));
-        within = omega arith;
-      }
+      pub refuses : {answer : ℕ} (none : A) → answer ≡ k .answer a → (answer ≡ 0 → ⊥) → Reads s answer none 0 (lineFrom k bs)
+      refuses {answer} none e n =
+          let q : answer ≡ k .answer (k .make (take (k .count) (l .values))) = e ∙ ap (k .answer) made in
+          record {
+            same = seen-other s answer none 0 n ∙ ap refused q ∙ sym (line-out k bs _ _ got (λ z. n (q ∙ z)));
+            within = omega arith;
+          }
 
-      pub entry : k .inside a ≡ true → Reads s 0 a (l .next) (lineFrom k bs)
-      entry f = record {
-        same = seen-zero s a (l .next) ∙ ap (λ (x : A). found x (drop (l .next) s)) made ∙ sym (line-in k bs _ _ got (ap (k .inside) (sym made) ∙ f));
+      pub entry : {answer : ℕ} → answer ≡ k .answer a → answer ≡ 0 → Reads s 0 a (l .next) (lineFrom k bs)
+      entry e z = record {
+        same = seen-zero s a (l .next) ∙ ap (λ (x : A). found x (drop (l .next) s)) made ∙ sym (line-in k bs _ _ got (ap (k .answer) (sym made) ∙ sym e ∙ z));
         within = fits .next;
       }
 
@@ -125,19 +131,21 @@ module _ {A : Type 0} (k : Kind A) (s bs : List ℕ) (l : Line) (e : seenLine s 
 pub no-found : {A : Type 0} {n : ℕ} {a : A} {rest : List ℕ} → refused n ≡ found a rest → ⊥
 no-found e = let z : _≡_ {A = ℕ} 0 1 = cc in omega arith
 
-inside-at : {A : Type 0} (k : Kind A) (bs : List ℕ) (n : Fields) (a : A) (rest : List ℕ) → lineOf (k .key) (k .count) (k .minus) bs ≡ n → lineFrom k bs ≡ found a rest → k .inside a ≡ true
+pub judged-found : {A : Type 0} (n : ℕ) (a : A) (rest : List ℕ) {b : A} {left : List ℕ} → judged n a rest ≡ found b left → (n ≡ 0) × (_≡_ {A = Found A} (found a rest) (found b left))
+judged-found zero a rest e = (refl, e)
+judged-found (suc n) a rest e = absurd (no-found e)
+
+inside-at : {A : Type 0} (k : Kind A) (bs : List ℕ) (n : Fields) (a : A) (rest : List ℕ) → lineOf (k .key) (k .count) (k .minus) bs ≡ n → lineFrom k bs ≡ found a rest → k .answer a ≡ 0
 unfolding lineFrom
 inside-at k bs bad a rest e f = absurd (no-found (simp e at f))
 inside-at {A} k bs (fields vs left) a rest e f =
-    by-test (k .inside (k .make vs))
-    (λ t.
-    let g : _≡_ {A = Found A} (found (k .make vs) left) (found a rest) = simp (e, t) at f in
+    let j = judged-found (k .answer (k .make vs)) (k .make vs) left (simp e at f) in
+    let g : _≡_ {A = Found A} (found (k .make vs) left) (found a rest) = j .1 in
     let q : k .make vs ≡ a = cc in
-    ap (k .inside) (sym q) ∙ t)
-    (λ t. absurd (no-found (simp (e, t) at f)))
+    ap (k .answer) (sym q) ∙ j .0
 
--- an entry that was found is in its range
-pub line-inside : {A : Type 0} (k : Kind A) (bs : List ℕ) (a : A) (rest : List ℕ) → lineFrom k bs ≡ found a rest → k .inside a ≡ true
+-- an entry that was found answers 0
+pub line-inside : {A : Type 0} (k : Kind A) (bs : List ℕ) (a : A) (rest : List ℕ) → lineFrom k bs ≡ found a rest → k .answer a ≡ 0
 line-inside k bs a rest e = inside-at k bs (lineOf (k .key) (k .count) (k .minus) bs) a rest refl e
 
 module _ {A : Type 0} {s : List ℕ} {answer : ℕ} {a : A} {next : ℕ} {want : Found A} (r : Reads s answer a next want) where
@@ -256,4 +264,4 @@ module _ {A : Type 0} {size : ℕ} {d : A} (counts : Kind ℕ) (k : Kind A) {s :
 
 -- a count that was read is in the range of its field
 pub count-inside : (key : List ℕ) (field : ℕ) {s : List ℕ} (bs : List ℕ) {answer n next : ℕ} → Reads s answer n next (lineFrom (numberKind key field) bs) → answer ≡ 0 → Inside field (pos n)
-count-inside key field bs {n = n} r z = inside-says field (pos n) .yes (line-inside (numberKind key field) bs n _ (is-found r z))
+count-inside key field bs {n = n} r z = number-judged field n .accepted (line-inside (numberKind key field) bs n _ (is-found r z))

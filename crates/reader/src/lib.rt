@@ -1,4 +1,4 @@
-// Reads a loop sheet from bytes: question 1, then line by line questions 2 and 3.
+// Reads a loop sheet from bytes: question 1, then line by line question 2 and what the line's entry answers.
 ghost use mathlib.Core.Path.{_≡_};
 ghost use Rattle.reader.specs.Read.{readOf, refusal};
 ghost use Rattle.reader.specs.Whole.{asRead};
@@ -14,14 +14,14 @@ use crate::sections::TypesRead;
 use crate::sections::read_edges;
 use crate::sections::read_ops;
 use crate::sections::read_types;
-use dependence::Edge;
 use sheet::CAP;
 use sheet::HORIZON;
 use sheet::MOST_EDGES;
 use sheet::MOST_OPERATIONS;
 use sheet::MOST_TYPES;
-use sheet::Operation;
-use sheet::ResourceType;
+use sheet::NO_EDGE;
+use sheet::NO_OPERATION;
+use sheet::NO_TYPE;
 use sheet::Sheet;
 
 // The most bytes of a sheet.
@@ -40,28 +40,17 @@ pub struct ReadAnswer {
 fn refuse(answer: usize) -> ReadAnswer
     ensures { λ r. ⌜ r ≡ refusal answer ⌝ }
 {
-    let no_type = ResourceType {
-        instances: 0,
-        latency: 0,
-    };
-    let no_operation = Operation { resource: 0 };
-    let no_edge = Edge {
-        from: 0,
-        to: 0,
-        delay: 0,
-        distance: 0,
-    };
     ReadAnswer {
         answer,
         sheet: Sheet {
             horizon: 0,
             cap: 0,
             type_count: 0,
-            types: [no_type; MOST_TYPES],
+            types: [NO_TYPE; MOST_TYPES],
             op_count: 0,
-            ops: [no_operation; MOST_OPERATIONS],
+            ops: [NO_OPERATION; MOST_OPERATIONS],
             edge_count: 0,
-            edges: [no_edge; MOST_EDGES],
+            edges: [NO_EDGE; MOST_EDGES],
         },
     }
 }

@@ -1,16 +1,17 @@
-// One line of a sheet: the answer (2 before 3), its entry and the place after it. With a refusal the others are 0.
+// One line of a sheet: the answer (2, then what its entry answers), its entry and the place after it. With a refusal the others are 0.
 ghost use lib.ListN.{drop};
 ghost use Rattle.reader.specs.Found.{lineFrom};
 ghost use Rattle.reader.specs.Kinds.{numberKind, typeKind, opKind, edgeKind};
 ghost use Rattle.reader.specs.Seen.{Reads};
 use dependence::Edge;
+use sheet::NO_EDGE;
+use sheet::NO_OPERATION;
+use sheet::NO_TYPE;
 use sheet::Operation;
 use sheet::ResourceType;
 
-// The answers to questions 2 and 3.
+// The answer to question 2.
 pub const MALFORMED: usize = 2;
-
-const OUT_OF_RANGE: usize = 3;
 
 // No number of the line may carry a minus.
 const NO_MINUS: usize = 8;
@@ -37,17 +38,18 @@ pub fn read_number(s: &[u8], at: usize, key: &[u8], field: usize) -> NumberRead
         };
     }
     let values = line.values;
-    let value = values[0];
-    if !sheet::inside(field, value) {
+    let value = values[0] as usize;
+    let answer = sheet::number_answer(field, value);
+    if answer != 0 {
         return NumberRead {
-            answer: OUT_OF_RANGE,
+            answer,
             value: 0,
             next: 0,
         };
     }
     NumberRead {
         answer: 0,
-        value: value as usize,
+        value,
         next: line.next,
     }
 }
@@ -62,15 +64,11 @@ pub struct TypeRead {
 pub fn read_type(s: &[u8], at: usize) -> TypeRead
     ensures { λ r. ⌜ Reads (now (s .entry)) (r .answer) (r .entry) (r .next) (lineFrom typeKind (drop at (now (s .entry)))) ⌝ }
 {
-    let none = ResourceType {
-        instances: 0,
-        latency: 0,
-    };
     let line = scan::read_line(s, at, b"type=", 2, NO_MINUS);
     if !line.ok {
         return TypeRead {
             answer: MALFORMED,
-            entry: none,
+            entry: NO_TYPE,
             next: 0,
         };
     }
@@ -79,10 +77,11 @@ pub fn read_type(s: &[u8], at: usize) -> TypeRead
         instances: values[0] as usize,
         latency: values[1] as usize,
     };
-    if !sheet::type_in_range(entry) {
+    let answer = sheet::type_answer(entry);
+    if answer != 0 {
         return TypeRead {
-            answer: OUT_OF_RANGE,
-            entry: none,
+            answer,
+            entry: NO_TYPE,
             next: 0,
         };
     }
@@ -103,27 +102,29 @@ pub struct OpRead {
 pub fn read_op(s: &[u8], at: usize, types: usize) -> OpRead
     ensures { λ r. ⌜ Reads (now (s .entry)) (r .answer) (r .entry) (r .next) (lineFrom (opKind types) (drop at (now (s .entry)))) ⌝ }
 {
-    let none = Operation { resource: 0 };
     let line = scan::read_line(s, at, b"op=", 1, NO_MINUS);
     if !line.ok {
         return OpRead {
             answer: MALFORMED,
-            entry: none,
+            entry: NO_OPERATION,
             next: 0,
         };
     }
     let values = line.values;
-    let resource = values[0] as usize;
-    if types <= resource {
+    let entry = Operation {
+        resource: values[0] as usize,
+    };
+    let answer = sheet::op_answer(types, entry);
+    if answer != 0 {
         return OpRead {
-            answer: OUT_OF_RANGE,
-            entry: none,
+            answer,
+            entry: NO_OPERATION,
             next: 0,
         };
     }
     OpRead {
         answer: 0,
-        entry: Operation { resource },
+        entry,
         next: line.next,
     }
 }
@@ -138,17 +139,11 @@ pub struct EdgeRead {
 pub fn read_edge(s: &[u8], at: usize, ops: usize) -> EdgeRead
     ensures { λ r. ⌜ Reads (now (s .entry)) (r .answer) (r .entry) (r .next) (lineFrom (edgeKind ops) (drop at (now (s .entry)))) ⌝ }
 {
-    let none = Edge {
-        from: 0,
-        to: 0,
-        delay: 0,
-        distance: 0,
-    };
     let line = scan::read_line(s, at, b"edge=", 4, DELAY_PLACE);
     if !line.ok {
         return EdgeRead {
             answer: MALFORMED,
-            entry: none,
+            entry: NO_EDGE,
             next: 0,
         };
     }
@@ -159,10 +154,11 @@ pub fn read_edge(s: &[u8], at: usize, ops: usize) -> EdgeRead
         delay: values[2],
         distance: values[3] as usize,
     };
-    if !sheet::edge_in_range(ops, entry) {
+    let answer = sheet::edge_answer(ops, entry);
+    if answer != 0 {
         return EdgeRead {
-            answer: OUT_OF_RANGE,
-            entry: none,
+            answer,
+            entry: NO_EDGE,
             next: 0,
         };
     }

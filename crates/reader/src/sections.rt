@@ -16,6 +16,9 @@ use sheet::EDGES;
 use sheet::MOST_EDGES;
 use sheet::MOST_OPERATIONS;
 use sheet::MOST_TYPES;
+use sheet::NO_EDGE;
+use sheet::NO_OPERATION;
+use sheet::NO_TYPE;
 use sheet::OPERATIONS;
 use sheet::Operation;
 use sheet::ResourceType;
@@ -31,14 +34,10 @@ pub struct TypesRead {
 fn no_types(answer: usize) -> TypesRead
     ensures { λ r. ⌜ Refuses answer 8 noType (r .answer) (r .count) (r .entries) (r .next) ⌝ }
 {
-    let none = ResourceType {
-        instances: 0,
-        latency: 0,
-    };
     TypesRead {
         answer,
         count: 0,
-        entries: [none; MOST_TYPES],
+        entries: [NO_TYPE; MOST_TYPES],
         next: 0,
     }
 }
@@ -48,11 +47,7 @@ fn type_lines(s: &[u8], at: usize, count: usize) -> TypesRead
     requires { ⌜ (at ≤ length (now s)) × (count ≤ 8) ⌝ }
     ensures { λ r. ⌜ Entries 8 noType (now (s .entry)) (r .answer) (r .count) (r .entries) (r .next) (linesFrom typeKind count [] (drop at (now (s .entry)))) ⌝ }
 {
-    let none = ResourceType {
-        instances: 0,
-        latency: 0,
-    };
-    let mut entries = [none; MOST_TYPES];
+    let mut entries = [NO_TYPE; MOST_TYPES];
     let mut p = at;
     let mut i: usize = 0;
     while i < count {
@@ -94,11 +89,10 @@ pub struct OpsRead {
 fn no_ops(answer: usize) -> OpsRead
     ensures { λ r. ⌜ Refuses answer 24 noOperation (r .answer) (r .count) (r .entries) (r .next) ⌝ }
 {
-    let none = Operation { resource: 0 };
     OpsRead {
         answer,
         count: 0,
-        entries: [none; MOST_OPERATIONS],
+        entries: [NO_OPERATION; MOST_OPERATIONS],
         next: 0,
     }
 }
@@ -108,8 +102,7 @@ fn op_lines(s: &[u8], at: usize, count: usize, types: usize) -> OpsRead
     requires { ⌜ (at ≤ length (now s)) × (count ≤ 24) ⌝ }
     ensures { λ r. ⌜ Entries 24 noOperation (now (s .entry)) (r .answer) (r .count) (r .entries) (r .next) (linesFrom (opKind types) count [] (drop at (now (s .entry)))) ⌝ }
 {
-    let none = Operation { resource: 0 };
-    let mut entries = [none; MOST_OPERATIONS];
+    let mut entries = [NO_OPERATION; MOST_OPERATIONS];
     let mut p = at;
     let mut i: usize = 0;
     while i < count {
@@ -151,16 +144,10 @@ pub struct EdgesRead {
 fn no_edges(answer: usize) -> EdgesRead
     ensures { λ r. ⌜ Refuses answer 96 noEdge (r .answer) (r .count) (r .entries) (r .next) ⌝ }
 {
-    let none = Edge {
-        from: 0,
-        to: 0,
-        delay: 0,
-        distance: 0,
-    };
     EdgesRead {
         answer,
         count: 0,
-        entries: [none; MOST_EDGES],
+        entries: [NO_EDGE; MOST_EDGES],
         next: 0,
     }
 }
@@ -170,13 +157,7 @@ fn edge_lines(s: &[u8], at: usize, count: usize, ops: usize) -> EdgesRead
     requires { ⌜ (at ≤ length (now s)) × (count ≤ 96) ⌝ }
     ensures { λ r. ⌜ Entries 96 noEdge (now (s .entry)) (r .answer) (r .count) (r .entries) (r .next) (linesFrom (edgeKind ops) count [] (drop at (now (s .entry)))) ⌝ }
 {
-    let none = Edge {
-        from: 0,
-        to: 0,
-        delay: 0,
-        distance: 0,
-    };
-    let mut entries = [none; MOST_EDGES];
+    let mut entries = [NO_EDGE; MOST_EDGES];
     let mut p = at;
     let mut i: usize = 0;
     while i < count {

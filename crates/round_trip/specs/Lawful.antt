@@ -1,7 +1,6 @@
 -- Each kind of line is lawful: an entry is made again from its numbers, and the numbers of a well-formed line from its entry.
 -- Assumes nothing.
 use mathlib.Core.Path.{_≡_, refl, sym, ap, _∙_}
-use mathlib.Core.Bool.{Bool, true, false}
 use mathlib.Core.List.{List, [], _∷_}
 use Prim.Native.Nat.{ℕ, suc, _≤_, _<_}
 use native.Mathlib.Omega.{arith}
@@ -9,27 +8,22 @@ use lib.IntN.{ℤ, pos, negsuc, natAbs}
 use lib.ListN.{length}
 use Rattle.laws.specs.Z.{zed}
 use Rattle.dependence.specs.declared.Edge.{Edge}
-use Rattle.dependence.specs.Graph.{Says, yes-says}
 use Rattle.scan.specs.RoundTrip.{Writable}
 use Rattle.sheet.specs.Ranges as range
 use Rattle.sheet.specs.Table.{range-short, inside-short}
+use Rattle.sheet.specs.AnswerLaws.{number-judged, type-judged, op-judged, edge-judged}
 use Rattle.sheet.specs.declared.Operation.{Operation}
 use Rattle.sheet.specs.declared.ResourceType.{ResourceType}
 use Rattle.reader.specs.Found.{Kind}
 use Rattle.reader.specs.Kinds.{numberKind, typeKind, opKind, edgeKind}
-use Rattle.reader.specs.Decide.{one-flag, inside-says, type-says, op-says, edge-says}
 use Rattle.reader.specs.Steps.{plain-nat}
 
--- entry and numbers of a kind of line give each other back, and an entry in its ranges has numbers that a line can have
+-- entry and numbers of a kind of line give each other back, and an entry that answers 0 has numbers that a line can have
 pub record Lawful {A : Type 0} (k : Kind A) : Type 0 where
   pub size : (a : A) → length (k .values a) ≡ k .count
   pub back : (a : A) → k .make (k .values a) ≡ a
   pub forth : (vs : List ℤ) → length vs ≡ k .count → Writable (k .minus) 0 vs → k .values (k .make vs) ≡ vs
-  pub writable : (a : A) → k .inside a ≡ true → Writable (k .minus) 0 (k .values a)
-
--- what holds has the flag true
-pub flag-true : {P : Type 0} {b : Bool} → Says P b → P → b ≡ true
-flag-true s p = one-flag s (yes-says p)
+  pub writable : (a : A) → k .answer a ≡ 0 → Writable (k .minus) 0 (k .values a)
 
 -- a number in the range of a field has at most four digits
 short : (field : ℕ) (z : ℤ) → range.Inside field z → natAbs z ≤ 9999
@@ -47,7 +41,7 @@ module _ (key : List ℕ) (field : ℕ) where
     size = λ n. refl;
     back = λ n. refl;
     forth = number-forth;
-    writable = λ n e. (inside-short (inside-says field (pos n) .yes e), refl, tt);
+    writable = λ n e. (inside-short (number-judged field n .accepted e), refl, tt);
   }
 
 type-forth : (vs : List ℤ) → length vs ≡ 2 → Writable 8 0 vs → typeKind .values (typeKind .make vs) ≡ vs
@@ -61,7 +55,7 @@ type-lawful = record {
   size = λ t. refl;
   back = λ t. refl;
   forth = type-forth;
-  writable = λ t e. let x = type-says t .yes e in (inside-short (x .instances), refl, (inside-short (x .latency), refl, tt));
+  writable = λ t e. let x = type-judged t .accepted e in (inside-short (x .instances), refl, (inside-short (x .latency), refl, tt));
 }
 
 module _ (types : ℕ) (few : types ≤ 9999) where
@@ -75,7 +69,7 @@ module _ (types : ℕ) (few : types ≤ 9999) where
     size = λ o. refl;
     back = λ o. refl;
     forth = op-forth;
-    writable = λ o e. let x = op-says types o .yes e in (omega arith, refl, tt);
+    writable = λ o e. let x = op-judged types o .accepted e .resource in (omega arith, refl, tt);
   }
 
 module _ (ops : ℕ) (few : ops ≤ 9999) where
@@ -94,7 +88,7 @@ module _ (ops : ℕ) (few : ops ≤ 9999) where
     back = λ e. refl;
     forth = edge-forth;
     writable = λ e t.
-        let x = edge-says ops e .yes t in
+        let x = edge-judged ops e .accepted t in
         let f = x .from in
         let g = x .to in
         (omega arith, refl, (omega arith, refl, (short range.delay (e .delay) (x .delay), tt, (inside-short (x .distance), refl, tt))));

@@ -1,19 +1,17 @@
 -- One line, several lines, a section: the text of entries in range is read as those entries, and only that text is.
 -- Assumes nothing.
 use mathlib.Core.Path.{_≡_, refl, sym, ap, subst, _∙_}
-use mathlib.Core.Bool.{Bool, true, false}
 use mathlib.Core.List.{List, [], _∷_, _++_, map, append-assoc, append-nil}
 use Prim.Native.Nat.{ℕ, zero, suc, _<_}
 use native.Mathlib.Omega.{arith}
 use lib.IntN.{ℤ}
 use lib.ListN.{length}
 use Rattle.text.specs.Text.{lineText}
-use Rattle.scan.specs.Bytes.{by-test}
 use Rattle.scan.specs.Line.{Fields, fields, bad, lineOf}
 use Rattle.scan.specs.RoundTrip.{reads-line, line-text}
 use Rattle.sheet.specs.Text.{Line, linesText}
-use Rattle.reader.specs.Found.{Found, found, refused, Kind, lineFrom, linesFrom, sectionFrom}
-use Rattle.reader.specs.Steps.{line-in, line-inside, no-found}
+use Rattle.reader.specs.Found.{Found, found, refused, judged, Kind, lineFrom, linesFrom, sectionFrom}
+use Rattle.reader.specs.Steps.{line-in, line-inside, judged-found, no-found}
 use Rattle.round_trip.specs.All.{All}
 use Rattle.round_trip.specs.Lawful.{Lawful}
 
@@ -29,33 +27,30 @@ entryText k a = lineText (k .key) (k .values a)
 abbrev pub entriesText : {A : Type 0} → Kind A → List A → List ℕ
 entriesText k es = linesText (map (entryLine k) es)
 
--- each entry is in its range
+-- each entry answers 0
 abbrev pub AllInside : {A : Type 0} → Kind A → List A → Type 0
-AllInside k es = All (λ a. k .inside a ≡ true) es
+AllInside k es = All (λ a. k .answer a ≡ 0) es
 
 module _ {A : Type 0} (k : Kind A) (law : Lawful k) where
   -- ---- one line
 
-  line-fields : (a : A) (rest : List ℕ) → k .inside a ≡ true → lineOf (k .key) (k .count) (k .minus) (entryText k a ++ rest) ≡ fields (k .values a) rest
+  line-fields : (a : A) (rest : List ℕ) → k .answer a ≡ 0 → lineOf (k .key) (k .count) (k .minus) (entryText k a ++ rest) ≡ fields (k .values a) rest
   line-fields a rest h =
       ap (λ (n : ℕ). lineOf (k .key) n (k .minus) (entryText k a ++ rest)) (sym (law .size a)) ∙ reads-line (k .key) (k .minus) (k .values a) rest (law .writable a h)
 
-  pub reads-entry : (a : A) (rest : List ℕ) → k .inside a ≡ true → lineFrom k (entryText k a ++ rest) ≡ found a rest
+  pub reads-entry : (a : A) (rest : List ℕ) → k .answer a ≡ 0 → lineFrom k (entryText k a ++ rest) ≡ found a rest
   reads-entry a rest h =
-      line-in k (entryText k a ++ rest) (k .values a) rest (line-fields a rest h) (ap (k .inside) (law .back a) ∙ h) ∙ ap (λ (x : A). found x rest) (law .back a)
+      line-in k (entryText k a ++ rest) (k .values a) rest (line-fields a rest h) (ap (k .answer) (law .back a) ∙ h) ∙ ap (λ (x : A). found x rest) (law .back a)
 
   entry-at : (bs : List ℕ) (n : Fields) (a : A) (rest : List ℕ) → lineOf (k .key) (k .count) (k .minus) bs ≡ n → lineFrom k bs ≡ found a rest → bs ≡ entryText k a ++ rest
   unfolding lineFrom
   entry-at bs bad a rest e f = absurd (no-found (simp e at f))
   entry-at bs (fields vs left) a rest e f =
-      by-test (k .inside (k .make vs))
-      (λ t.
-      let g : _≡_ {A = Found A} (found (k .make vs) left) (found a rest) = simp (e, t) at f in
+      let g : _≡_ {A = Found A} (found (k .make vs) left) (found a rest) = judged-found (k .answer (k .make vs)) (k .make vs) left (simp e at f) .1 in
       let q : k .make vs ≡ a = cc in
       let l : left ≡ rest = cc in
       let r = line-text (k .key) (k .count) (k .minus) bs vs left e in
-      r .text ∙ ap (λ (ws : List ℤ). lineText (k .key) ws ++ left) (sym (law .forth vs (r .count) (r .good)) ∙ ap (k .values) q) ∙ ap (λ (x : List ℕ). entryText k a ++ x) l)
-      (λ t. absurd (no-found (simp (e, t) at f)))
+      r .text ∙ ap (λ (ws : List ℤ). lineText (k .key) ws ++ left) (sym (law .forth vs (r .count) (r .good)) ∙ ap (k .values) q) ∙ ap (λ (x : List ℕ). entryText k a ++ x) l
 
   pub entry-text : (bs : List ℕ) (a : A) (rest : List ℕ) → lineFrom k bs ≡ found a rest → bs ≡ entryText k a ++ rest
   entry-text bs a rest e = entry-at bs (lineOf (k .key) (k .count) (k .minus) bs) a rest refl e
@@ -111,11 +106,11 @@ module _ {A : Type 0} (k : Kind A) (law : Lawful k) where
 -- what a section that was read says of its bytes
 pub record SectionRead {A : Type 0} (counts : Kind ℕ) (k : Kind A) (bs : List ℕ) (es : List A) (rest : List ℕ) : Type 0 where
   pub text : bs ≡ entryText counts (length es) ++ (entriesText k es ++ rest)
-  pub count : counts .inside (length es) ≡ true
+  pub count : counts .answer (length es) ≡ 0
   pub good : AllInside k es
 
 module _ {A : Type 0} (counts : Kind ℕ) (counted : Lawful counts) (k : Kind A) (law : Lawful k) where
-  pub reads-section : (es : List A) (rest : List ℕ) → counts .inside (length es) ≡ true → AllInside k es
+  pub reads-section : (es : List A) (rest : List ℕ) → counts .answer (length es) ≡ 0 → AllInside k es
       → sectionFrom counts k (entryText counts (length es) ++ (entriesText k es ++ rest)) ≡ found es rest
   unfolding sectionFrom
   reads-section es rest c h = rw (reads-entry counts counted (length es) (entriesText k es ++ rest) c) (reads-entries k law es [] rest h)
@@ -130,7 +125,7 @@ module _ {A : Type 0} (counts : Kind ℕ) (counted : Lawful counts) (k : Kind A)
       record {
         text = entry-text counts counted bs n left e ∙ ap (λ (m : ℕ). entryText counts m ++ left) q
             ∙ ap (λ (x : List ℕ). entryText counts (length es) ++ x) (r .text ∙ ap (λ (l : List A). entriesText k l ++ rest) (sym w));
-        count = ap (counts .inside) (sym q) ∙ line-inside counts bs n left e;
+        count = ap (counts .answer) (sym q) ∙ line-inside counts bs n left e;
         good = subst (AllInside k) (sym w) (r .good);
       }
 
@@ -139,13 +134,14 @@ module _ {A : Type 0} (counts : Kind ℕ) (counted : Lawful counts) (k : Kind A)
 
 -- ---- a refusal has a number
 
+judged-some : {A : Type 0} (m : ℕ) (a : A) (rest : List ℕ) {n : ℕ} → judged m a rest ≡ refused n → 0 < n
+judged-some zero a rest e = absurd (no-found (sym e))
+judged-some {A} (suc m) a rest {n} e = let z : _≡_ {A = Found A} (refused (suc m)) (refused n) = e in let q : suc m ≡ n = cc in omega arith
+
 line-some-at : {A : Type 0} (k : Kind A) (bs : List ℕ) (f : Fields) (n : ℕ) → lineOf (k .key) (k .count) (k .minus) bs ≡ f → lineFrom k bs ≡ refused n → 0 < n
 unfolding lineFrom
 line-some-at {A} k bs bad n e g = let z : _≡_ {A = Found A} (refused 2) (refused n) = simp e at g in let q : 2 ≡ n = cc in omega arith
-line-some-at {A} k bs (fields vs left) n e g =
-    by-test (k .inside (k .make vs))
-    (λ t. absurd (no-found (sym (simp (e, t) at g))))
-    (λ t. let z : _≡_ {A = Found A} (refused 3) (refused n) = simp (e, t) at g in let q : 3 ≡ n = cc in omega arith)
+line-some-at {A} k bs (fields vs left) n e g = judged-some (k .answer (k .make vs)) (k .make vs) left (simp e at g)
 
 pub line-some : {A : Type 0} (k : Kind A) (bs : List ℕ) (n : ℕ) → lineFrom k bs ≡ refused n → 0 < n
 line-some k bs n e = line-some-at k bs (lineOf (k .key) (k .count) (k .minus) bs) n refl e

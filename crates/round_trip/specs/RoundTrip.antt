@@ -2,7 +2,6 @@
 -- as itself, with 0 past the counts. Every text fits 4,096 bytes.
 -- Assumes nothing.
 use mathlib.Core.Path.{_≡_, refl, sym, ap, subst, _∙_}
-use mathlib.Core.Bool.{Bool, true, false}
 use mathlib.Core.List.{List, [], _∷_, _++_, map, append-assoc, append-nil}
 use Prim.Native.Nat.{ℕ, _+_, _*_, _-_, _≤_, _<_}
 use native.Mathlib.Omega.{arith}
@@ -21,19 +20,19 @@ use Rattle.sheet.specs.declared.Operation.{Operation}
 use Rattle.sheet.specs.declared.ResourceType.{ResourceType}
 use Rattle.sheet.specs.Facts.{most}
 use Rattle.sheet.specs.Ranges as range
-use Rattle.sheet.specs.Sheet.{noType, noOperation, TypeInRange, EdgeInRange, InRange}
+use Rattle.sheet.specs.Sheet.{noType, noOperation, TypeInRange, OpInRange, EdgeInRange, InRange}
 use Rattle.sheet.specs.Text.{Line, linesText, countLine, typeLine, opLine, edgeLine, sheetLines, sheetText}
 use Rattle.sheet.specs.TextLaws.{lines-append}
 use Rattle.reader.specs.declared.ReadAnswer.{ReadAnswer}
 use Rattle.reader.specs.Found.{Found, found, refused, Kind, lineFrom, sectionFrom, padded}
 use Rattle.reader.specs.Kinds.{horizonKind, capKind, typesKind, opsKind, edgesKind, typeKind, opKind, edgeKind}
 use Rattle.reader.specs.Read.{sheetOf, refusal, accepted, readOf}
-use Rattle.reader.specs.Decide.{inside-says, type-says, op-says, edge-says}
+use Rattle.sheet.specs.AnswerLaws.{number-judged, type-judged, op-judged, edge-judged}
 use Rattle.reader.specs.Steps.{line-inside}
 use Rattle.reader.specs.Whole.{too-long, stops-horizon, stops-cap, stops-types, stops-ops, stops-edges, whole, something-more}
 use Rattle.round_trip.specs.Accepted.{Arrays, trimmed, Accepted}
 use Rattle.round_trip.specs.All.{all-take, all-at}
-use Rattle.round_trip.specs.Lawful.{Lawful, flag-true, number-lawful, type-lawful, op-lawful, edge-lawful}
+use Rattle.round_trip.specs.Lawful.{Lawful, number-lawful, type-lawful, op-lawful, edge-lawful}
 use Rattle.round_trip.specs.Lines.{entryText, entriesText, AllInside, reads-entry, entry-text, reads-section, section-text, line-some, section-some}
 use Rattle.round_trip.specs.Short.{entry-length, entries-length}
 
@@ -60,33 +59,33 @@ sheet-lists s =
     ∙ ap (λ (l : List ℕ). entriesText typeKind types ++ (entryText opsKind (s .«op_count») ++ l))
     (lines-append (map opLine ops) (countLine key.edgesKey (s .«edge_count») ∷ map edgeLine edges)))
 
--- each number is in its range, and the counts count
+-- each line answers 0, and the counts count
 record Good (horizon cap r : ℕ) (types : List ResourceType) (n : ℕ) (ops : List Operation) (m : ℕ) (edges : List Edge) : Type 0 where
-  horizon-in : horizonKind .inside horizon ≡ true
-  cap-in : capKind .inside cap ≡ true
-  types-in : typesKind .inside r ≡ true
+  horizon-in : horizonKind .answer horizon ≡ 0
+  cap-in : capKind .answer cap ≡ 0
+  types-in : typesKind .answer r ≡ 0
   types-count : length types ≡ r
   each-type : AllInside typeKind types
-  ops-in : opsKind .inside n ≡ true
+  ops-in : opsKind .answer n ≡ 0
   ops-count : length ops ≡ n
   each-op : AllInside (opKind r) ops
-  edges-in : edgesKind .inside m ≡ true
+  edges-in : edgesKind .answer m ≡ 0
   edges-count : length edges ≡ m
   each-edge : AllInside (edgeKind n) edges
 
-types-few : (r : ℕ) → typesKind .inside r ≡ true → r ≤ 8
-types-few r e = most (inside-says range.types (pos r) .yes e)
+types-few : (r : ℕ) → typesKind .answer r ≡ 0 → r ≤ 8
+types-few r e = most (number-judged range.types r .accepted e)
 
-ops-few : (n : ℕ) → opsKind .inside n ≡ true → n ≤ 24
-ops-few n e = most (inside-says range.operations (pos n) .yes e)
+ops-few : (n : ℕ) → opsKind .answer n ≡ 0 → n ≤ 24
+ops-few n e = most (number-judged range.operations n .accepted e)
 
-edges-few : (m : ℕ) → edgesKind .inside m ≡ true → m ≤ 96
-edges-few m e = most (inside-says range.edges (pos m) .yes e)
+edges-few : (m : ℕ) → edgesKind .answer m ≡ 0 → m ≤ 96
+edges-few m e = most (number-judged range.edges m .accepted e)
 
-ops-lawful : (r : ℕ) → typesKind .inside r ≡ true → Lawful (opKind r)
+ops-lawful : (r : ℕ) → typesKind .answer r ≡ 0 → Lawful (opKind r)
 ops-lawful r e = op-lawful r (omega (arith, types-few r e))
 
-edges-lawful : (n : ℕ) → opsKind .inside n ≡ true → Lawful (edgeKind n)
+edges-lawful : (n : ℕ) → opsKind .answer n ≡ 0 → Lawful (edgeKind n)
 edges-lawful n e = edge-lawful n (omega (arith, ops-few n e))
 
 -- ---- the text is short, and is read
@@ -111,10 +110,10 @@ module _ {horizon cap r : ℕ} {types : List ResourceType} {n : ℕ} {ops : List
       simp length-append (omega arith)
 
   section : {A : Type 0} (counts : Kind ℕ) (counted : Lawful counts) (k : Kind A) (law : Lawful k) (c : ℕ) (es : List A) (rest : List ℕ)
-      → counts .inside c ≡ true → length es ≡ c → AllInside k es → sectionFrom counts k (entryText counts c ++ (entriesText k es ++ rest)) ≡ found es rest
+      → counts .answer c ≡ 0 → length es ≡ c → AllInside k es → sectionFrom counts k (entryText counts c ++ (entriesText k es ++ rest)) ≡ found es rest
   section {A} counts counted k law c es rest i q h =
       subst (λ (x : ℕ). sectionFrom counts k (entryText counts x ++ (entriesText k es ++ rest)) ≡ found es rest) q
-      (reads-section counts counted k law es rest (ap (counts .inside) q ∙ i) h)
+      (reads-section counts counted k law es rest (ap (counts .answer) q ∙ i) h)
 
   lists-read : readOf (listsText horizon cap r types n ops m edges) ≡ accepted (sheetOf horizon cap types ops edges)
   lists-read =
@@ -137,19 +136,19 @@ module _ (s : Sheet) (long : Arrays s) (ok : InRange s) where
       let o : s .«op_count» ≤ length (s .ops) = omega (arith, most (ok .counts .ops), long .ops) in
       let e : s .«edge_count» ≤ length (s .edges) = omega (arith, most (ok .counts .edges), long .edges) in
       record {
-        horizon-in = flag-true (inside-says range.horizon (pos (s .horizon))) (ok .counts .horizon);
-        cap-in = flag-true (inside-says range.cap (pos (s .cap))) (ok .counts .cap);
-        types-in = flag-true (inside-says range.types (pos (s .«type_count»))) (ok .counts .types);
+        horizon-in = number-judged range.horizon (s .horizon) .accepts (ok .counts .horizon);
+        cap-in = number-judged range.cap (s .cap) .accepts (ok .counts .cap);
+        types-in = number-judged range.types (s .«type_count») .accepts (ok .counts .types);
         types-count = length-take-le (s .«type_count») (s .types) t;
-        each-type = all-take (λ a. typeKind .inside a ≡ true) noType (s .types) (s .«type_count») t (λ i h. flag-true (type-says (getD (s .types) i noType)) (ok .eachType i h));
-        ops-in = flag-true (inside-says range.operations (pos (s .«op_count»))) (ok .counts .ops);
+        each-type = all-take (λ a. typeKind .answer a ≡ 0) noType (s .types) (s .«type_count») t (λ i h. type-judged (getD (s .types) i noType) .accepts (ok .eachType i h));
+        ops-in = number-judged range.operations (s .«op_count») .accepts (ok .counts .ops);
         ops-count = length-take-le (s .«op_count») (s .ops) o;
-        each-op = all-take (λ a. opKind (s .«type_count») .inside a ≡ true) noOperation (s .ops) (s .«op_count») o
-            (λ i h. flag-true (op-says (s .«type_count») (getD (s .ops) i noOperation)) (ok .eachOp i h));
-        edges-in = flag-true (inside-says range.edges (pos (s .«edge_count»))) (ok .counts .edges);
+        each-op = all-take (λ a. opKind (s .«type_count») .answer a ≡ 0) noOperation (s .ops) (s .«op_count») o
+            (λ i h. op-judged (s .«type_count») (getD (s .ops) i noOperation) .accepts (ok .eachOp i h));
+        edges-in = number-judged range.edges (s .«edge_count») .accepts (ok .counts .edges);
         edges-count = length-take-le (s .«edge_count») (s .edges) e;
-        each-edge = all-take (λ a. edgeKind (s .«op_count») .inside a ≡ true) noEdge (s .edges) (s .«edge_count») e
-            (λ i h. flag-true (edge-says (s .«op_count») (getD (s .edges) i noEdge)) (ok .eachEdge i h));
+        each-edge = all-take (λ a. edgeKind (s .«op_count») .answer a ≡ 0) noEdge (s .edges) (s .«edge_count») e
+            (λ i h. edge-judged (s .«op_count») (getD (s .edges) i noEdge) .accepts (ok .eachEdge i h));
       }
 
   -- every text fits
@@ -179,18 +178,18 @@ module _ (horizon cap : ℕ) (types : List ResourceType) (ops : List Operation) 
   made-in-range : InRange (sheetOf horizon cap types ops edges)
   made-in-range = record {
     counts = record {
-      horizon = inside-says range.horizon (pos horizon) .yes (g .horizon-in);
-      cap = inside-says range.cap (pos cap) .yes (g .cap-in);
-      types = inside-says range.types (pos (length types)) .yes (g .types-in);
-      ops = inside-says range.operations (pos (length ops)) .yes (g .ops-in);
-      edges = inside-says range.edges (pos (length edges)) .yes (g .edges-in);
+      horizon = number-judged range.horizon horizon .accepted (g .horizon-in);
+      cap = number-judged range.cap cap .accepted (g .cap-in);
+      types = number-judged range.types (length types) .accepted (g .types-in);
+      ops = number-judged range.operations (length ops) .accepted (g .ops-in);
+      edges = number-judged range.edges (length edges) .accepted (g .edges-in);
     };
     eachType = λ i h. subst TypeInRange (sym (List·getD-append types (replicate (8 - length types) noType) noType i h))
-        (type-says (getD types i noType) .yes (all-at (λ a. typeKind .inside a ≡ true) noType types (g .each-type) i h));
-    eachOp = λ i h. subst (λ (o : Operation). o .resource < length types) (sym (List·getD-append ops (replicate (24 - length ops) noOperation) noOperation i h))
-        (op-says (length types) (getD ops i noOperation) .yes (all-at (λ a. opKind (length types) .inside a ≡ true) noOperation ops (g .each-op) i h));
+        (type-judged (getD types i noType) .accepted (all-at (λ a. typeKind .answer a ≡ 0) noType types (g .each-type) i h));
+    eachOp = λ i h. subst (OpInRange (length types)) (sym (List·getD-append ops (replicate (24 - length ops) noOperation) noOperation i h))
+        (op-judged (length types) (getD ops i noOperation) .accepted (all-at (λ a. opKind (length types) .answer a ≡ 0) noOperation ops (g .each-op) i h));
     eachEdge = λ i h. subst (EdgeInRange (length ops)) (sym (List·getD-append edges (replicate (96 - length edges) noEdge) noEdge i h))
-        (edge-says (length ops) (getD edges i noEdge) .yes (all-at (λ a. edgeKind (length ops) .inside a ≡ true) noEdge edges (g .each-edge) i h));
+        (edge-judged (length ops) (getD edges i noEdge) .accepted (all-at (λ a. edgeKind (length ops) .answer a ≡ 0) noEdge edges (g .each-edge) i h));
   }
 
   made-text : sheetText (sheetOf horizon cap types ops edges) ≡ listsText horizon cap (length types) types (length ops) ops (length edges) edges

@@ -1,7 +1,6 @@
 -- How long the text of lines can be.
 -- Assumes nothing.
 use mathlib.Core.Path.{_≡_}
-use mathlib.Core.Bool.{true}
 use mathlib.Core.List.{List, [], _∷_, _++_}
 use Prim.Native.Nat.{ℕ, suc, _+_, _*_, _≤_}
 use native.Mathlib.Nat.{mul-suc}
@@ -32,7 +31,7 @@ joined-length minus i (v ∷ vs) w =
     omega arith
 
 module _ {A : Type 0} (k : Kind A) (law : Lawful k) where
-  pub entry-length : (a : A) → k .inside a ≡ true → length (entryText k a) ≤ length (k .key) + 6 * k .count
+  pub entry-length : (a : A) → k .answer a ≡ 0 → length (entryText k a) ≤ length (k .key) + 6 * k .count
   unfolding lineText
   entry-length a h =
       let b = joined-length (k .minus) 0 (k .values a) (law .writable a h) in

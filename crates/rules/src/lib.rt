@@ -1,6 +1,6 @@
 // Tests of a plan's rules for one and for two operations: instances, rivals, slots. Any operation number may be asked about.
 ghost use mathlib.Core.Path.{_≡_};
-ghost use Rattle.dependence.specs.Graph.{Says};
+ghost use Rattle.laws.specs.Says.{Says};
 ghost use Rattle.sheet.specs.Sheet.{opAt, typeOf};
 ghost use Rattle.plan.specs.Rules.{Rivals, Overlap, slot};
 use sheet::MOST_OPERATIONS;

@@ -21,15 +21,15 @@ use Rattle.sheet.specs.Facts.{graph-in-range, interval-in-range, ops-least, ops
 use Rattle.plan.specs.declared.PlanAnswer.{PlanAnswer}
 use Rattle.plan.specs.declared.IntervalAnswer.{IntervalAnswer}
 use Rattle.plan.specs.Rules.{Plan}
-use Rattle.plan.specs.Answers.{refused, First, PlanAt, Least, out-of-range, no-interval, bad-walk, denied, given, least}
+use Rattle.plan.specs.Answers.{refused, First, PlanAt, LeastInterval, out-of-range, no-interval, bad-walk, denied, given, least}
 use Rattle.plan.specs.Loops.{loop-length, loop-padded}
 use Rattle.domain.specs.Domain.{FirstIn}
 use Rattle.task.specs.declared.Task.{Task}
 use Rattle.task.specs.Plan.{PlanOf}
 use Rattle.instances.specs.Seats.{Seats}
-use Rattle.problem.specs.Domain.{DomainFor}
-use Rattle.problem.specs.Task.{TaskFor}
-use Rattle.problem.specs.Bridge.{Cut, none-found, first-found}
+use Rattle.model.specs.Domain.{DomainFor}
+use Rattle.model.specs.Task.{TaskFor}
+use Rattle.model.specs.Bridge.{Cut, none-found, first-found}
 
 -- no bad closed walk: question 5 gets a yes
 pub record NoBadWalk (s : Sheet) (L : ℕ) : Type 0 where
@@ -107,7 +107,7 @@ none-more {s} {m} b n = record { none = λ L h k. at L h k (ℕ-discrete L m) }
     at L h k (no e) t u p = b .none L h (omega arith) t u p
 
 -- the first interval that has a plan is the least
-pub least-answer : {s : Sheet} {L : ℕ} {r : PlanAnswer} → PlanAt s L r → InRange s → r .answer ≡ 0 → NoneBelow s L → Least s (record { answer = 0; interval = L })
+pub least-answer : {s : Sheet} {L : ℕ} {r : PlanAnswer} → PlanAt s L r → InRange s → r .answer ≡ 0 → NoneBelow s L → LeastInterval s (record { answer = 0; interval = L })
 least-answer {s} {L} {r} a ok e b =
     let q = has-plan a e in
     least ok (q .0) (vec (r .starts)) (vec (r .instances)) (q .1) (λ L' i t u p. at L' i t u p (decLt L' L))

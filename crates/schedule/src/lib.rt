@@ -2,8 +2,8 @@
 ghost use mathlib.Core.Path.{_≡_};
 ghost use Prim.Native.Nat.{ℕ, _≤_, _<_};
 ghost use Rattle.sheet.specs.Sheet.{InRange, Interval};
-ghost use Rattle.plan.specs.Answers.{PlanAt, Least, refused};
-ghost use Rattle.problem.specs.Bridge.{Cut};
+ghost use Rattle.plan.specs.Answers.{PlanAt, LeastInterval, refused};
+ghost use Rattle.model.specs.Bridge.{Cut};
 ghost use Rattle.schedule.specs.Served.{NoBadWalk};
 use plan::IntervalAnswer;
 use plan::PlanAnswer;
@@ -43,8 +43,8 @@ fn first_plan(sheet: Sheet, interval: usize) -> PlanAnswer
 {
     let graph = sheet::graph_of(sheet);
     let lags = dependence::lags(graph, interval);
-    let task = problem::build::task_of(sheet, interval, lags);
-    let domain = problem::allowed::allowed_domain(sheet, interval);
+    let task = model::build::task_of(sheet, interval, lags);
+    let domain = model::allowed::allowed_domain(sheet, interval);
     let found = search::first_plan(task, domain);
     if found.yes {
         let n = sheet.op_count;
@@ -90,7 +90,7 @@ pub fn plan_at(sheet: Sheet, interval: usize) -> PlanAnswer
 
 // The least interval from 1 to the cap that has a plan, or why there is none: 3, 7.
 pub fn least_interval(sheet: Sheet) -> IntervalAnswer
-    ensures { λ r. ⌜ Least sheet r ⌝ }
+    ensures { λ r. ⌜ LeastInterval sheet r ⌝ }
 {
     if sheet::in_range(sheet) {
         let cap = sheet.cap;

@@ -7,12 +7,17 @@ use Rattle.text.specs.Text.{bufferOf}
 use Rattle.text.specs.Line.{refused, writtenOf}
 use Rattle.sheet.specs.declared.Sheet.{Sheet}
 use Rattle.sheet.specs.Sheet.{InRange}
+use Rattle.sheet.specs.Answer.{sheetAnswer}
 use Rattle.sheet.specs.Text.{sheetText}
 
--- 3, and the buffer as it was; else the sheet's text where the whole of it fits, or 9
+-- what the sheet answers, and the buffer as it was; else the sheet's text where the whole of it fits, or 9
 pub data Wrote (s : Sheet) (old : List ℕ) : Written → List ℕ → Type 0 where
-  out-of-range : (InRange s → ⊥) → Wrote s old (refused 3) old
+  out-of-range : (InRange s → ⊥) → Wrote s old (refused (sheetAnswer s)) old
   in-range : InRange s → Wrote s old (writtenOf (sheetText s) old) (bufferOf (sheetText s) old)
+
+-- of a sheet that refuses, by its answer
+pub stopped : {s : Sheet} {old : List ℕ} {n : ℕ} → n ≡ sheetAnswer s → (InRange s → ⊥) → Wrote s old (refused n) old
+stopped e n = rw e (out-of-range n)
 
 -- of a sheet in range, by the answer and the buffer
 pub made : {s : Sheet} {old new : List ℕ} {r : Written} → InRange s → r ≡ writtenOf (sheetText s) old → new ≡ bufferOf (sheetText s) old → Wrote s old r new

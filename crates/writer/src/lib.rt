@@ -141,13 +141,14 @@ fn fill(s: Sheet, out: &mut [u8]) -> usize
     at
 }
 
-// The sheet's text at the front of `out` and its count of bytes; 3, or 9 where the whole text does not fit, and then `out` stays as it was.
+// The sheet's text at the front of `out` and its count of bytes; what the sheet answers, or 9 where the whole text does not fit, and then `out` stays as it was.
 pub fn write(s: Sheet, out: &mut [u8]) -> Written
     ensures { λ r. ⌜ Wrote s (now (out .entry)) r (now (out .exit)) ⌝ }
 {
-    if !sheet::in_range(s) {
+    let refusal = sheet::answer(s);
+    if refusal != 0 {
         return Written {
-            answer: 3,
+            answer: refusal,
             count: 0,
         };
     }

@@ -2,7 +2,7 @@
 -- Assumes nothing.
 use native.Mathlib.Omega.{arith}
 use borrow.Author.Tests.{not-true, not-false}
-use Rattle.dependence.specs.Graph.{no-says}
+use Rattle.laws.specs.Says.{no-says}
 use Rattle.sheet.specs.Tests.{last, lt-says, eq-says}
 use Rattle.placing.specs.Entries.{empty-allowed, placed-allowed}
 use borrow.Author.Needs.{needs}

@@ -1,7 +1,7 @@
 -- `placing::target_in_range` meets its contract: each test is one field of the record.
 -- Assumes nothing.
 use native.Mathlib.Omega.{arith}
-use Rattle.dependence.specs.Graph.{no-says}
+use Rattle.laws.specs.Says.{no-says}
 use Rattle.sheet.specs.Tests.{last, lt-says}
 use Rattle.placing.proofs.target_in_range.Statement.{statement}
 use Rattle.placing.proofs.target_in_range.Tie as tie

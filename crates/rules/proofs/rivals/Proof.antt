@@ -2,7 +2,7 @@
 -- Assumes nothing.
 use native.Mathlib.Omega.{arith}
 use mathlib.Core.Path.{sym, _∙_}
-use Rattle.dependence.specs.Graph.{no-says}
+use Rattle.laws.specs.Says.{no-says}
 use Rattle.sheet.specs.Tests.{last, lt-says}
 use borrow.Author.Needs.{needs}
 use Rattle.rules.proofs.rivals.Statement.{statement}

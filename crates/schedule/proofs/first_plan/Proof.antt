@@ -9,7 +9,7 @@ use Rattle.dependence.specs.Answer.{TableAnswer, Lags}
 use Rattle.sheet.specs.Sheet.{graphOf}
 use Rattle.sheet.specs.Facts.{ops-most}
 use Rattle.plan.specs.Answers.{PlanAt}
-use Rattle.problem.specs.Ready.{ready, task-ok}
+use Rattle.model.specs.Ready.{ready, task-ok}
 use Rattle.schedule.specs.Served.{lags-found, denied-answer, given-answer}
 use Rattle.schedule.proofs.first_plan.Statement.{statement}
 use Rattle.schedule.proofs.first_plan.Tie as tie

@@ -4,7 +4,7 @@ use mathlib.Core.Path.{_∙_, refl}
 use native.Mathlib.Omega.{arith}
 use borrow.Author.Needs.{needs}
 use Rattle.net.specs.Meets.{earliest-floor}
-use Rattle.net.specs.Agree.{earliest-agree}
+use Rattle.net.specs.SameWeb.{earliest-agree}
 use Rattle.dependence.specs.Graph.{InRange, Interval}
 use Rattle.dependence.specs.Answer.{FloorOk, starts-three, starts-four, starts-five, starts-found}
 use Rattle.dependence.specs.Bridge.{to-earliest}

@@ -1,17 +1,14 @@
--- `reader::lines::read_edge` meets its contract: the line and the test of an edge pick the case of `lineFrom`.
+-- `reader::lines::read_edge` meets its contract: the line and what an edge answers pick the case of `lineFrom`.
 -- Assumes nothing.
-use mathlib.Core.Path.{_≡_, ap, subst, sym, _∙_}
+use mathlib.Core.Path.{_≡_, ap}
 use native.Mathlib.Omega.{arith}
-use Prim.Native.Nat.{ℕ}
-use lib.IntN.{ℤ, pos, natAbs}
+use lib.IntN.{pos, natAbs}
 use lib.ListN.{getD, take}
 use mathlib.Core.Bool.{not, false}
 use mir.Syntax.{w32}
 use mir.Val.{toZ, ofZ}
-use borrow.Author.Tests.{not-true, not-false, le-ltb, lt-ltb}
 use Rattle.reader.specs.Kinds.{edgeKind}
-use Rattle.reader.specs.Steps.{malformed, value-at, cast-at, nat-at, out-of-range, entry}
-use Rattle.reader.specs.Decide.{one-flag, edge-says}
+use Rattle.reader.specs.Steps.{malformed, value-at, cast-at, refuses, entry}
 use Rattle.dependence.specs.declared.Edge.{Edge}
 use Rattle.dependence.specs.Graph.{noEdge}
 use borrow.Author.Needs.{needs}
@@ -22,7 +19,7 @@ use Rattle.reader.proofs.lines.read_edge.Tie as tie
 made : (c : tie.After-read-line) → not (c .read-line .result .ok) ≡ false
     → _≡_ {A = Edge}
     (record { from = natAbs (toZ w32 (ofZ w32 (getD (c .read-line .result .values) 0 (pos 0)))); to = natAbs (toZ w32 (ofZ w32 (getD (c .read-line .result .values) 1 (pos 0)))); delay = toZ w32 (ofZ w32 (getD (c .read-line .result .values) 2 (pos 0))); distance = natAbs (toZ w32 (ofZ w32 (getD (c .read-line .result .values) 3 (pos 0)))) })
-    (edgeKind (c .before .before .before .args .ops) .make (take 4 (c .read-line .result .values)))
+    ((edgeKind (c .before .before .before .args .ops)) .make (take 4 (c .read-line .result .values)))
 made c t =
     let at = value-at (edgeKind (c .before .before .before .args .ops)) _ _ _ (c .read-line .ensures .0) (c .read-line .ensures .1) t in
     λ j. record { from = natAbs (at 0 (omega arith) j); to = natAbs (at 1 (omega arith) j); delay = at 2 (omega arith) j; distance = natAbs (at 3 (omega arith) j) }
@@ -38,47 +35,47 @@ returns c =
     let r = c .before .before in
     malformed (edgeKind (r .before .before .before .args .ops)) _ _ _ (r .read-line .ensures .0) (r .read-line .ensures .1) noEdge (c .if1 .taken)
 
-array-copy-out-t14 : tie.Need-array-copy-out-t14
-array-copy-out-t14 c = search needs
+array-copy-out-t15 : tie.Need-array-copy-out-t15
+array-copy-out-t15 c = search needs
 
-cast-t15 : tie.Need-cast-t15
-cast-t15 c =
+cast-t16 : tie.Need-cast-t16
+cast-t16 c =
     let r = c .before .before .before .before in
     cast-at (edgeKind (r .before .before .before .args .ops)) _ _ _ (r .read-line .ensures .0) (r .read-line .ensures .1) (c .before .before .if1 .left) 0 (omega arith) (λ z. absurd (omega arith))
 
-array-copy-out-t18 : tie.Need-array-copy-out-t18
-array-copy-out-t18 c = search needs
+array-copy-out-t19 : tie.Need-array-copy-out-t19
+array-copy-out-t19 c = search needs
 
-cast-t19 : tie.Need-cast-t19
-cast-t19 c =
+cast-t20 : tie.Need-cast-t20
+cast-t20 c =
     let r = c .before .before .before .before .before in
     cast-at (edgeKind (r .before .before .before .args .ops)) _ _ _ (r .read-line .ensures .0) (r .read-line .ensures .1) (c .before .before .before .if1 .left) 1 (omega arith) (λ z. absurd (omega arith))
 
-array-copy-out-t22 : tie.Need-array-copy-out-t22
-array-copy-out-t22 c = search needs
+array-copy-out-t23 : tie.Need-array-copy-out-t23
+array-copy-out-t23 c = search needs
 
-array-copy-out-t25 : tie.Need-array-copy-out-t25
-array-copy-out-t25 c = search needs
+array-copy-out-t26 : tie.Need-array-copy-out-t26
+array-copy-out-t26 c = search needs
 
-cast-t26 : tie.Need-cast-t26
-cast-t26 c =
+cast-t27 : tie.Need-cast-t27
+cast-t27 c =
     let r = c .before .before .before .before .before .before .before in
     cast-at (edgeKind (r .before .before .before .args .ops)) _ _ _ (r .read-line .ensures .0) (r .read-line .ensures .1) (c .before .before .before .before .before .if1 .left) 3 (omega arith) (λ z. absurd (omega arith))
 
-edge-in-range-requires : tie.Need-edge-in-range-requires
-edge-in-range-requires c κs = search needs
+edge-answer-requires : tie.Need-edge-answer-requires
+edge-answer-requires c κs = search needs
 
 returns-2 : tie.Need-returns-2
 returns-2 c =
     let r = c .before .before .before .before .before .before .before .before .before in
     let t = c .before .before .before .before .before .before .before .if1 .left in
-    out-of-range (edgeKind (r .before .before .before .args .ops)) _ _ _ (r .read-line .ensures .0) (r .read-line .ensures .1) t _ (made r t) noEdge (one-flag (edge-says _ _) (c .before .edge-in-range .ensures) ∙ not-true _ (c .if2 .taken))
+    refuses (edgeKind (r .before .before .before .args .ops)) _ _ _ (r .read-line .ensures .0) (r .read-line .ensures .1) t _ (made r t) noEdge (c .before .edge-answer .ensures) (c .if2 .taken)
 
 returns-3 : tie.Need-returns-3
 returns-3 c =
     let r = c .before .before .before .before .before .before .before .before .before in
     let t = c .before .before .before .before .before .before .before .if1 .left in
-    entry (edgeKind (r .before .before .before .args .ops)) _ _ _ (r .read-line .ensures .0) (r .read-line .ensures .1) t _ (made r t) (one-flag (edge-says _ _) (c .before .edge-in-range .ensures) ∙ not-false _ (c .if2 .left))
+    entry (edgeKind (r .before .before .before .args .ops)) _ _ _ (r .read-line .ensures .0) (r .read-line .ensures .1) t _ (made r t) (c .before .edge-answer .ensures) (c .if2 .left)
 
 pub read-edge-spec : {M : Type 1} → statement M
 read-edge-spec =
@@ -87,13 +84,13 @@ read-edge-spec =
     slice-aggregate-read-line
     read-line-requires
     returns
-    array-copy-out-t14
-    cast-t15
-    array-copy-out-t18
-    cast-t19
-    array-copy-out-t22
-    array-copy-out-t25
-    cast-t26
-    edge-in-range-requires
+    array-copy-out-t15
+    cast-t16
+    array-copy-out-t19
+    cast-t20
+    array-copy-out-t23
+    array-copy-out-t26
+    cast-t27
+    edge-answer-requires
     returns-2
     returns-3)

@@ -1,0 +1,78 @@
+// The public functions of `dependence` as C functions, for the benchmark in bench/dependence alone. A table gives one cell.
+ghost use Rattle.laws.specs.Says.{Says};
+ghost use Rattle.dependence.specs.Graph.{InRange};
+ghost use Rattle.dependence.specs.Answer.{TotalAnswer, StartsAnswer, WalkAnswer, BoundAnswer, TableAnswer, Separations, Lags};
+ghost use Rattle.bench_dependence.specs.Cells.{CellAt, CellOf};
+use dependence::BadWalk;
+use dependence::Bound;
+use dependence::EdgeTotal;
+use dependence::Graph;
+use dependence::MOST_OPERATIONS;
+use dependence::Starts;
+
+// A floor for each operation.
+#[repr(C)]
+pub struct Floor {
+    pub at: [usize; MOST_OPERATIONS],
+}
+
+#[no_mangle]
+pub extern "C" fn dependence_in_range(graph: Graph) -> bool
+    ensures { λ r. ⌜ Says (InRange graph) r ⌝ }
+{
+    dependence::in_range(graph)
+}
+
+#[no_mangle]
+pub extern "C" fn dependence_total(graph: Graph, interval: usize, k: usize) -> EdgeTotal
+    ensures { λ r. ⌜ TotalAnswer graph interval k (r .answer) (r .value) ⌝ }
+{
+    dependence::total(graph, interval, k)
+}
+
+#[no_mangle]
+pub extern "C" fn dependence_earliest(graph: Graph, interval: usize, floor: Floor) -> Starts
+    ensures { λ r. ⌜ StartsAnswer graph interval (floor .at) (r .answer) (r .starts) (r .«loop_length») (r .«loop_edges») ⌝ }
+{
+    let at = floor.at;
+    dependence::earliest(graph, interval, at)
+}
+
+#[no_mangle]
+pub extern "C" fn dependence_bad_walk(graph: Graph, interval: usize) -> BadWalk
+    ensures { λ r. ⌜ WalkAnswer graph interval (r .answer) (r .«loop_length») (r .«loop_edges») ⌝ }
+{
+    dependence::bad_walk(graph, interval)
+}
+
+#[no_mangle]
+pub extern "C" fn dependence_bound(graph: Graph, cap: usize) -> Bound
+    ensures { λ r. ⌜ BoundAnswer graph cap (r .answer) (r .value) ⌝ }
+{
+    dependence::recurrence_bound(graph, cap)
+}
+
+fn cell(table: [[i32; MOST_OPERATIONS]; MOST_OPERATIONS], i: usize, j: usize) -> i32
+    ensures { λ r. ⌜ CellAt table i j r ⌝ }
+{
+    if i < MOST_OPERATIONS {
+        if j < MOST_OPERATIONS {
+            return table[i][j];
+        }
+    }
+    0
+}
+
+#[no_mangle]
+pub extern "C" fn dependence_separation(graph: Graph, interval: usize, i: usize, j: usize) -> i32
+    ensures { λ r. ⌜ CellOf (TableAnswer graph interval (Separations graph interval)) i j r ⌝ }
+{
+    cell(dependence::separations(graph, interval), i, j)
+}
+
+#[no_mangle]
+pub extern "C" fn dependence_lag(graph: Graph, interval: usize, i: usize, j: usize) -> i32
+    ensures { λ r. ⌜ CellOf (TableAnswer graph interval (Lags graph interval)) i j r ⌝ }
+{
+    cell(dependence::lags(graph, interval), i, j)
+}

@@ -1,0 +1,71 @@
+-- `model::build::limits_of` meets its contract: each type passed has its instances, and the others have 0.
+-- Assumes nothing.
+use mathlib.Core.Path.{_≡_, refl, sym, _∙_}
+use Prim.Native.Nat.{ℕ, _≤_, _<_, _-_}
+use native.Mathlib.Omega.{arith}
+use lib.ListN.{length, length-set, getD}
+use lib.Seq.{getD-set-other}
+use borrow.Author.Needs.{needs}
+use Rattle.laws.specs.Store.{store-more, all-zero}
+use Rattle.sheet.specs.Sheet.{typeAt}
+use Rattle.model.proofs.build.limits_of.Statement.{statement}
+use Rattle.model.proofs.build.limits_of.Tie as tie
+
+abbrev Inv-loop : tie.InvT-loop
+Inv-loop sheet n limits₀ r₀ limits r = (r ≤ n) × (length limits ≡ 8) × ((k : ℕ) → k < r → getD limits k 0 ≡ typeAt sheet k .instances) × ((k : ℕ) → r ≤ k → getD limits k 0 ≡ 0)
+
+abbrev μ-loop : tie.MeasureT-loop
+μ-loop sheet n limits₀ r₀ limits r = n - r
+
+loop-holds : tie.Need-loop-holds Inv-loop μ-loop
+loop-holds c = (omega arith, search needs, (λ k l. absurd (omega arith)), λ k l. all-zero 8 k)
+
+mul-t : tie.Need-mul-t Inv-loop μ-loop
+mul-t c = search needs
+
+element-copy-out-t : tie.Need-element-copy-out-t Inv-loop μ-loop
+element-copy-out-t c = search needs
+
+mul-limits : tie.Need-mul-limits Inv-loop μ-loop
+mul-limits c = search needs
+
+array-write-limits : tie.Need-array-write-limits Inv-loop μ-loop
+array-write-limits c = search needs
+
+add-r : tie.Need-add-r Inv-loop μ-loop
+add-r c = search needs
+
+loop-less : tie.Need-loop-less Inv-loop μ-loop
+loop-less c = search needs
+
+loop-again : tie.Need-loop-again Inv-loop μ-loop
+loop-again c =
+    let l = c .before .before in
+    let s = l .before in (
+      omega (arith, c .before .loop-test .taken),
+      simp length-set (l .loop .inv .1),
+      store-more (λ k z. z ≡ typeAt (s .args .t1) k .instances) (l .loop .limits) (l .loop .r) _ 0 (omega (arith, l .loop .inv .1, c .before .loop-test .taken, s .pre)) refl (l .loop .inv .2),
+      λ k h. getD-set-other (l .loop .limits) (l .loop .r) k _ 0 (λ e. omega arith) ∙ l .loop .inv .3 k (omega arith),
+    )
+
+returns : tie.Need-returns Inv-loop μ-loop
+returns c = record {
+  limit = λ k h. c .before .loop .inv .2 k (omega (arith, c .loop-test .left));
+  rest = λ k h. c .before .loop .inv .3 k (omega (arith, c .before .loop .inv .0));
+}
+
+pub limits-of-spec : {M : Type 1} → statement M
+limits-of-spec =
+    tie.close
+    (tie.spec
+    Inv-loop
+    μ-loop
+    loop-holds
+    mul-t
+    element-copy-out-t
+    mul-limits
+    array-write-limits
+    add-r
+    loop-less
+    loop-again
+    returns)

@@ -1,0 +1,46 @@
+-- `timing::earliest_starts` meets its contract: questions 3 and 4, then the dependence part's answer over the floor 0.
+-- Assumes nothing.
+use mathlib.Core.Path.{_≡_, subst}
+use borrow.Author.Needs.{needs}
+use lib.ListN.{length}
+use Rattle.laws.specs.Entry.{zeros}
+use Rattle.dependence.specs.declared.Graph.{Graph}
+use Rattle.dependence.specs.Answer.{StartsAnswer}
+use Rattle.sheet.specs.Questions.{accepted, refuses}
+use Rattle.timing.specs.Answers.{startsRefused}
+use Rattle.timing.specs.Served.{starts-at}
+use Rattle.timing.proofs.earliest_starts.Statement.{statement}
+use Rattle.timing.proofs.earliest_starts.Tie as tie
+
+starts : (c : tie.After-earliest) → length (c .earliest .result .starts) ≡ 24
+starts c = search needs
+
+edges : (c : tie.After-earliest) → length (c .earliest .result .«loop_edges») ≡ 24
+edges c = search needs
+
+asked-requires : tie.Need-asked-requires
+asked-requires c κs = search needs
+
+starts-refused-requires : tie.Need-starts-refused-requires
+starts-refused-requires c κs = search needs
+
+returns : tie.Need-returns
+returns c = refuses startsRefused (c .before .before .asked .ensures) (c .before .if1 .taken) (c .starts-refused .ensures)
+
+graph-of-requires : tie.Need-graph-of-requires
+graph-of-requires c κs = search needs
+
+earliest-requires : tie.Need-earliest-requires
+earliest-requires c κs = search needs
+
+returns-2 : tie.Need-returns-2
+returns-2 c =
+    let i = c .before .before in
+    let ok = accepted (i .before .asked .ensures) (i .if1 .left) in
+    let s = i .before .before .args in
+    starts-at (s .sheet) (s .interval) ok (c .earliest .result) (starts c) (edges c)
+    (subst (λ (g : Graph). StartsAnswer g (s .interval) zeros (c .earliest .result .answer) (c .earliest .result .starts) (c .earliest .result .«loop_length») (c .earliest .result .«loop_edges»)) (c .before .graph-of .ensures) (c .earliest .ensures))
+
+pub earliest-starts-spec : {M : Type 1} → statement M
+earliest-starts-spec =
+    tie.close (tie.spec asked-requires starts-refused-requires returns graph-of-requires earliest-requires returns-2)
