@@ -7,8 +7,8 @@ use dependence::BadWalk;
 use dependence::Bound;
 use dependence::EdgeTotal;
 use dependence::Graph;
-use dependence::MOST_OPERATIONS;
 use dependence::Starts;
+use sizes::MOST_OPERATIONS;
 
 // A floor for each operation.
 #[repr(C)]

@@ -7,11 +7,11 @@ ghost use Rattle.dependence.specs.Answer.{TableAnswer, Lags};
 ghost use Rattle.dependence.specs.Lag.{LagCells, PeakList};
 use crate::Graph;
 use crate::HIGHEST_FLOOR;
-use crate::MOST_OPERATIONS;
 use crate::questions::in_range;
 use crate::questions::interval_ok;
 use crate::totals::net_of;
 use net::settle;
+use sizes::MOST_OPERATIONS;
 
 // The floor 16384 at i, and 0 elsewhere.
 fn peak(i: usize) -> [usize; MOST_OPERATIONS]

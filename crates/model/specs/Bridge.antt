@@ -8,7 +8,7 @@ use Prim.Native.Nat.{ℕ, _+_, _%_, _<_, _≤_}
 use native.Mathlib.Omega.{arith}
 use native.Mathlib.Decide.{decLt}
 use lib.IntN.{ℤ, pos}
-use Rattle.laws.specs.Entry.{vec}
+use Rattle.laws.specs.Entry.{vec, ZeroFrom}
 use Rattle.laws.specs.Z.{true-false}
 use Rattle.laws.specs.Count.{tally}
 use Rattle.laws.specs.Says.{Says}
@@ -17,7 +17,7 @@ use Rattle.sheet.specs.Sheet.{InRange, Interval, Limited, typeOf, typeAt, opAt,
 use Rattle.sheet.specs.Facts.{horizon-most, ops-most}
 use Rattle.plan.specs.Rules.{Plan, StartAllowed, InstanceAllowed, Rivals}
 use Rattle.plan.specs.Order.{Less, Same, Precedes}
-use Rattle.plan.specs.Answers.{First, ZeroFrom}
+use Rattle.plan.specs.Answers.{First}
 use Rattle.plan.specs.Total.{same-sym, same-trans}
 use Rattle.plan.specs.Local.{plan-local}
 use Rattle.plan.specs.Places.{tally-places}

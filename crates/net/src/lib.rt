@@ -9,11 +9,8 @@ ghost use lib.IntN.{pos, negsuc, _+ℤ_};
 ghost use lib.Signed.{_≤ℤ_, leZ};
 ghost use Rattle.net.specs.Net.{webOf, NetOk, Below};
 ghost use Rattle.net.specs.Starts.{Pushed, Part, AllMet, Settles};
-
-// How many operations and edges a net holds.
-pub const MOST_OPERATIONS: usize = 24;
-
-pub const MOST_EDGES: usize = 96;
+use sizes::MOST_EDGES;
+use sizes::MOST_OPERATIONS;
 
 // Edges below `count`, from and to operations below `ops`.
 pub struct Net {

@@ -6,9 +6,9 @@ ghost use Rattle.placing.specs.Table.{placementAt, Placed, EntryAllowed,
 ghost use Rattle.placing.specs.Answers.{NewAt, PlaceAt, whole};
 ghost use Rattle.placing.specs.Change.{changed};
 ghost use Rattle.placing.specs.Room.{Room, FirstUntaken};
-use sheet::MOST_OPERATIONS;
-use sheet::MOST_TYPES;
 use sheet::Sheet;
+use sizes::MOST_OPERATIONS;
+use sizes::MOST_TYPES;
 
 // Where an operation is placed. Both numbers are 0 where nothing is.
 #[repr(C)]

@@ -16,13 +16,13 @@ use crate::sections::read_ops;
 use crate::sections::read_types;
 use sheet::CAP;
 use sheet::HORIZON;
-use sheet::MOST_EDGES;
-use sheet::MOST_OPERATIONS;
-use sheet::MOST_TYPES;
 use sheet::NO_EDGE;
 use sheet::NO_OPERATION;
 use sheet::NO_TYPE;
 use sheet::Sheet;
+use sizes::MOST_EDGES;
+use sizes::MOST_OPERATIONS;
+use sizes::MOST_TYPES;
 
 // The most bytes of a sheet.
 const LONGEST: usize = 4096;

@@ -13,9 +13,6 @@ use crate::lines::read_op;
 use crate::lines::read_type;
 use dependence::Edge;
 use sheet::EDGES;
-use sheet::MOST_EDGES;
-use sheet::MOST_OPERATIONS;
-use sheet::MOST_TYPES;
 use sheet::NO_EDGE;
 use sheet::NO_OPERATION;
 use sheet::NO_TYPE;
@@ -23,6 +20,9 @@ use sheet::OPERATIONS;
 use sheet::Operation;
 use sheet::ResourceType;
 use sheet::TYPES;
+use sizes::MOST_EDGES;
+use sizes::MOST_OPERATIONS;
+use sizes::MOST_TYPES;
 
 pub struct TypesRead {
     pub answer: usize,

@@ -3,9 +3,9 @@ ghost use mathlib.Core.Path.{_≡_};
 ghost use Rattle.laws.specs.Says.{Says};
 ghost use Rattle.sheet.specs.Sheet.{opAt, typeOf};
 ghost use Rattle.plan.specs.Rules.{Rivals, Overlap, slot};
-use sheet::MOST_OPERATIONS;
-use sheet::MOST_TYPES;
 use sheet::Sheet;
+use sizes::MOST_OPERATIONS;
+use sizes::MOST_TYPES;
 
 // The type of an operation; past the array it is 0.
 pub fn resource_of(sheet: Sheet, op: usize) -> usize

@@ -6,7 +6,7 @@ use native.Mathlib.Omega.{arith}
 use Rattle.sheet.specs.declared.Sheet.{Sheet}
 use Rattle.sheet.specs.Sheet.{InRange, Interval}
 use Rattle.sheet.specs.Answer.{sheetAnswer}
-use Rattle.sheet.specs.AnswerLaws.{sheet-out}
+use Rattle.sheet.specs.AnswerLaws.{sheet-in, sheet-inside, sheet-out}
 
 -- a question P: at a no the answer is one of `No`, at a yes what follows answers
 pub data Asked {A : Type 0} (P : Type 0) (No Then : A → Type 0) : A → Type 0 where
@@ -43,12 +43,23 @@ asked-one f g a b (at-no n p) (at-yes y q) = absurd (n y)
 asked-one f g a b (at-yes y p) (at-no n q) = absurd (n y)
 asked-one f g a b (at-yes y p) (at-yes z q) = g a b p q
 
+pub on-sheet-one : {A : Type 0} (refused : ℕ → A) {s : Sheet} {Then : A → Type 0} → One Then → One (OnSheet refused s Then)
+on-sheet-one refused f = asked-one (is-one (refused _)) f
+
 pub at-interval-one : {A : Type 0} (refused : ℕ → A) {s : Sheet} {L : ℕ} {Then : A → Type 0} → One Then → One (AtInterval refused s L Then)
-at-interval-one refused f = asked-one (is-one (refused _)) (asked-one (is-one (refused 4)) f)
+at-interval-one refused f = on-sheet-one refused (asked-one (is-one (refused 4)) f)
 
 -- ---- a service that asked
 
--- both got a yes
+module _ {s : Sheet} where
+  -- the sheet's own questions got a yes
+  pub sheet-accepted : {n : ℕ} → n ≡ sheetAnswer s → n ≡ 0 → InRange s
+  sheet-accepted e z = sheet-inside s (sym e ∙ z)
+
+  pub sheet-refuses : {A : Type 0} (refused : ℕ → A) {Then : A → Type 0} {a : A} {n : ℕ} → n ≡ sheetAnswer s → (n ≡ 0 → ⊥) → a ≡ refused n → OnSheet refused s Then a
+  sheet-refuses refused e z q = at-no (λ ok. z (e ∙ sheet-in s ok)) (q ∙ ap refused e)
+
+-- those and question 4 got a yes
 pub record Accepted (s : Sheet) (L : ℕ) : Type 0 where
   pub sheet : InRange s
   pub interval : Interval s L

@@ -2,8 +2,8 @@
 // (totals, lags) by `dependence` on the sheet's graph.
 use crate::print;
 use dependence::Graph;
-use dependence::MOST_OPERATIONS;
 use sheet::Sheet;
+use sizes::MOST_OPERATIONS;
 
 // Intervals out of range at both ends, and some within.
 const INTERVALS: [usize; 9] = [0, 1, 2, 3, 4, 5, 6, 64, 65];

@@ -1,7 +1,7 @@
 // Lines on standard output.
-use dependence::MOST_OPERATIONS;
 use dependence::NO_WALK;
 use libc::STDOUT_FILENO;
+use sizes::MOST_OPERATIONS;
 
 pub fn text(s: &[u8]) {
     io::write_all(STDOUT_FILENO, s);

@@ -5,7 +5,7 @@ use libc::STDIN_FILENO;
 use libc::STDOUT_FILENO;
 use plan::Schedule;
 use plan::Verdict;
-use plan::order::MOST_OPERATIONS;
+use sizes::MOST_OPERATIONS;
 
 // The bytes of a line with its line feed.
 const LINE: usize = 102;

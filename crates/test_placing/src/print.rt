@@ -2,7 +2,7 @@
 use libc::STDOUT_FILENO;
 use placing::Placement;
 use placing::Table;
-use sheet::MOST_OPERATIONS;
+use sizes::MOST_OPERATIONS;
 
 fn text(s: &[u8]) {
     io::write_all(STDOUT_FILENO, s);

@@ -9,8 +9,8 @@ use crate::print;
 use placing::Placement;
 use placing::Table;
 use scan::read_line;
-use sheet::MOST_OPERATIONS;
 use sheet::Sheet;
+use sizes::MOST_OPERATIONS;
 
 // No number of a line may carry a minus.
 const NO_MINUS: usize = 8;

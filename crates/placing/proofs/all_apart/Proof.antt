@@ -7,7 +7,7 @@ use mathlib.Core.Path.{_≡_, sym, _∙_}
 use borrow.Author.Count.{below-more}
 use lib.ListN.{length, length-map}
 use Rattle.laws.specs.Says.{yes-says}
-use Rattle.sheet.specs.Tests.{stops, passed}
+use Rattle.laws.specs.Tests.{stops, passed}
 use Rattle.placing.specs.Table.{Apart}
 use Rattle.placing.specs.Entries.{unplaced-past, everywhere}
 use Rattle.placing.proofs.all_apart.Statement.{statement}

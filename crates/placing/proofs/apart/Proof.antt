@@ -4,7 +4,7 @@ use mathlib.Core.Path.{sym, _∙_}
 use borrow.Author.Tests.{not-true, not-false}
 use Rattle.laws.specs.Z.{true-false}
 use Rattle.laws.specs.Says.{yes-says}
-use Rattle.sheet.specs.Tests.{last}
+use Rattle.laws.specs.Tests.{last}
 use borrow.Author.Needs.{needs}
 use Rattle.placing.proofs.apart.Statement.{statement}
 use Rattle.placing.proofs.apart.Tie as tie

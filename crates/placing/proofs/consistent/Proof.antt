@@ -1,6 +1,6 @@
 -- `placing::consistent` meets its contract: each test is one field of the record.
 -- Assumes nothing.
-use Rattle.sheet.specs.Tests.{stops, passed, last}
+use Rattle.laws.specs.Tests.{stops, passed, last}
 use borrow.Author.Needs.{needs}
 use Rattle.placing.proofs.consistent.Statement.{statement}
 use Rattle.placing.proofs.consistent.Tie as tie

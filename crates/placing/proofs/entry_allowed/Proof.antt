@@ -3,7 +3,7 @@
 use native.Mathlib.Omega.{arith}
 use borrow.Author.Tests.{not-true, not-false}
 use Rattle.laws.specs.Says.{no-says}
-use Rattle.sheet.specs.Tests.{last, lt-says, eq-says}
+use Rattle.laws.specs.Tests.{last, lt-says, eq-says}
 use Rattle.placing.specs.Entries.{empty-allowed, placed-allowed}
 use borrow.Author.Needs.{needs}
 use Rattle.placing.proofs.entry_allowed.Statement.{statement}

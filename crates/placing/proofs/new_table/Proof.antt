@@ -1,6 +1,6 @@
 -- `placing::new_table` meets its contract: each answer is a case of `NewAt`.
 -- Assumes nothing.
-use Rattle.sheet.specs.Tests.{denied, passed}
+use Rattle.laws.specs.Tests.{denied, passed}
 use Rattle.placing.specs.Answers.{sheet-out-of-range, no-interval, new}
 use borrow.Author.Needs.{needs}
 use Rattle.placing.proofs.new_table.Statement.{statement}

@@ -2,7 +2,7 @@
 -- Assumes nothing.
 use Prim.Native.Nat.{_<_}
 use native.Mathlib.Omega.{arith}
-use Rattle.sheet.specs.Tests.{denied, passed}
+use Rattle.laws.specs.Tests.{denied, passed}
 use Rattle.sheet.specs.Facts.{ops-most}
 use Rattle.placing.specs.Table.{Target}
 use Rattle.placing.specs.Room.{lowest-free, none-free}

@@ -4,7 +4,7 @@ use mathlib.Core.Path.{sym, _∙_}
 use borrow.Author.Tests.{not-true, not-false}
 use Rattle.laws.specs.Z.{true-false}
 use Rattle.laws.specs.Says.{no-says}
-use Rattle.sheet.specs.Tests.{stops, passed, last}
+use Rattle.laws.specs.Tests.{stops, passed, last}
 use borrow.Author.Needs.{needs}
 use Rattle.placing.proofs.takes.Statement.{statement}
 use Rattle.placing.proofs.takes.Tie as tie

@@ -2,7 +2,7 @@
 -- Assumes nothing.
 use native.Mathlib.Omega.{arith}
 use Rattle.laws.specs.Says.{no-says}
-use Rattle.sheet.specs.Tests.{last, lt-says}
+use Rattle.laws.specs.Tests.{last, lt-says}
 use Rattle.placing.proofs.target_in_range.Statement.{statement}
 use Rattle.placing.proofs.target_in_range.Tie as tie
 

@@ -1,7 +1,7 @@
 -- `rules::overlap` meets its contract: one slot.
 -- Assumes nothing.
 use mathlib.Core.Path.{sym, _∙_}
-use Rattle.sheet.specs.Tests.{last, eq-says}
+use Rattle.laws.specs.Tests.{last, eq-says}
 use borrow.Author.Needs.{needs}
 use Rattle.rules.proofs.overlap.Statement.{statement}
 use Rattle.rules.proofs.overlap.Tie as tie

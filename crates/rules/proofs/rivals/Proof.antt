@@ -3,7 +3,7 @@
 use native.Mathlib.Omega.{arith}
 use mathlib.Core.Path.{sym, _∙_}
 use Rattle.laws.specs.Says.{no-says}
-use Rattle.sheet.specs.Tests.{last, lt-says}
+use Rattle.laws.specs.Tests.{last, lt-says}
 use borrow.Author.Needs.{needs}
 use Rattle.rules.proofs.rivals.Statement.{statement}
 use Rattle.rules.proofs.rivals.Tie as tie

@@ -4,7 +4,7 @@ use mathlib.Core.Path.{refl, sym, _∙_}
 use borrow.Author.Needs.{needs}
 use Rattle.sheet.specs.Questions.{at-no, at-yes}
 use Rattle.sheet.specs.AnswerLaws.{sheet-in, sheet-inside}
-use Rattle.sheet.specs.Tests.{denied, passed}
+use Rattle.laws.specs.Tests.{denied, passed}
 use Rattle.sheet.proofs.asked.Statement.{statement}
 use Rattle.sheet.proofs.asked.Tie as tie
 

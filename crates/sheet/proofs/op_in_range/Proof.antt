@@ -1,6 +1,6 @@
 -- `sheet::op_in_range` meets its contract.
 -- Assumes nothing.
-use Rattle.sheet.specs.Tests.{last, lt-says}
+use Rattle.laws.specs.Tests.{last, lt-says}
 use Rattle.sheet.proofs.op_in_range.Statement.{statement}
 use Rattle.sheet.proofs.op_in_range.Tie as tie
 

@@ -3,7 +3,7 @@
 use Prim.Native.Nat.{_<_, _-_}
 use native.Mathlib.Omega.{arith}
 use Rattle.sheet.specs.Sheet.{InRange}
-use Rattle.sheet.specs.Tests.{denied, passed}
+use Rattle.laws.specs.Tests.{denied, passed}
 use Rattle.sheet.specs.Facts.{ops-most}
 use Rattle.slot_order.specs.Pairs.{Pair, firstPair, between-pair, not-below, top}
 use Rattle.slot_order.specs.Answers.{no-plan, no-pair, no-rivals, ordered}

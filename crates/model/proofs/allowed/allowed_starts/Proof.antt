@@ -42,7 +42,7 @@ returns : tie.Need-returns Inv-loop μ-loop
 returns c = let l = c .before .loop in
     record {
       start = λ k h. let q = l .inv .2 k (omega arith) in
-          record { yes = λ e. record { inHorizon = q .yes e .inside }; no = λ e p. q .no e (record { inside = p .inHorizon }) };
+          record { yes = λ e. record { inHorizon = q .yes e .inside; holds = tt }; no = λ e p. q .no e (record { inside = p .inHorizon }) };
     }
 
 pub allowed-starts-spec : {M : Type 1} → statement M
