@@ -1,20 +1,21 @@
 // The services on plans: the plan at an interval and the least interval.
 ghost use mathlib.Core.Path.{_≡_};
 ghost use Prim.Native.Nat.{ℕ, _≤_, _<_};
-ghost use Rattle.sheet.specs.Sheet.{InRange, Interval};
-ghost use Rattle.plan.specs.Answers.{PlanAt, LeastInterval, refused};
+ghost use Rattle.sizes.specs.Sizes.{mostOperations};
+ghost use Rattle.plan.specs.Answers.{PlanAt, LeastInterval, IfPlan, refused};
 ghost use Rattle.model.specs.Bridge.{Cut};
-ghost use Rattle.schedule.specs.Served.{NoBadWalk};
+ghost use Rattle.schedule.specs.Served.{Ready};
 use plan::IntervalAnswer;
 use plan::PlanAnswer;
 use sheet::Sheet;
+use sizes::MOST_OPERATIONS;
 
 // The first n numbers, and 0 past them.
-fn cut(n: usize, xs: [usize; 24]) -> [usize; 24]
-    requires { ⌜ n ≤ 24 ⌝ }
+fn cut(n: usize, xs: [usize; MOST_OPERATIONS]) -> [usize; MOST_OPERATIONS]
+    requires { ⌜ n ≤ mostOperations ⌝ }
     ensures { λ r. ⌜ Cut n xs r ⌝ }
 {
-    let mut out = [0usize; 24];
+    let mut out = [0usize; MOST_OPERATIONS];
     let mut i: usize = 0;
     while i < n {
         out[i] = xs[i];
@@ -29,17 +30,17 @@ fn refusal(answer: usize) -> PlanAnswer
 {
     PlanAnswer {
         answer,
-        starts: [0; 24],
-        instances: [0; 24],
+        starts: [0; MOST_OPERATIONS],
+        instances: [0; MOST_OPERATIONS],
         loop_length: 0,
-        loop_edges: [0; 24],
+        loop_edges: [0; MOST_OPERATIONS],
     }
 }
 
 // Question 6: the first plan, or that there is none.
 fn first_plan(sheet: Sheet, interval: usize) -> PlanAnswer
-    requires { ⌜ InRange sheet × Interval sheet interval × NoBadWalk sheet interval ⌝ }
-    ensures { λ r. ⌜ PlanAt sheet interval r ⌝ }
+    requires { ⌜ Ready sheet interval ⌝ }
+    ensures { λ r. ⌜ IfPlan sheet interval r ⌝ }
 {
     let graph = sheet::graph_of(sheet);
     let lags = dependence::lags(graph, interval);
@@ -57,61 +58,60 @@ fn first_plan(sheet: Sheet, interval: usize) -> PlanAnswer
             starts,
             instances,
             loop_length: 0,
-            loop_edges: [0; 24],
+            loop_edges: [0; MOST_OPERATIONS],
         };
     }
     refusal(6)
 }
 
-// The plan at an interval that comes before every other, or why there is none: 3, 4, 5 with the first bad closed walk, 6.
+// The plan at an interval that comes before every other, or why there is none: the sheet's refusal, 4, 5 with the first bad closed walk, 6.
 pub fn plan_at(sheet: Sheet, interval: usize) -> PlanAnswer
     ensures { λ r. ⌜ PlanAt sheet interval r ⌝ }
 {
-    if sheet::in_range(sheet) {
-        if sheet::interval_in_range(sheet, interval) {
-            let graph = sheet::graph_of(sheet);
-            let walk = dependence::bad_walk(graph, interval);
-            if walk.answer == 5 {
-                let loop_edges = walk.loop_edges;
-                return PlanAnswer {
-                    answer: 5,
-                    starts: [0; 24],
-                    instances: [0; 24],
-                    loop_length: walk.loop_length,
-                    loop_edges,
-                };
-            }
-            return first_plan(sheet, interval);
-        }
-        return refusal(4);
+    let asked = sheet::asked(sheet, interval);
+    if asked != 0 {
+        return refusal(asked);
     }
-    refusal(3)
+    let graph = sheet::graph_of(sheet);
+    let walk = dependence::bad_walk(graph, interval);
+    if walk.answer == 5 {
+        let loop_edges = walk.loop_edges;
+        return PlanAnswer {
+            answer: 5,
+            starts: [0; MOST_OPERATIONS],
+            instances: [0; MOST_OPERATIONS],
+            loop_length: walk.loop_length,
+            loop_edges,
+        };
+    }
+    first_plan(sheet, interval)
 }
 
-// The least interval from 1 to the cap that has a plan, or why there is none: 3, 7.
+// The least interval from 1 to the cap that has a plan, or why there is none: the sheet's refusal, 7.
 pub fn least_interval(sheet: Sheet) -> IntervalAnswer
     ensures { λ r. ⌜ LeastInterval sheet r ⌝ }
 {
-    if sheet::in_range(sheet) {
-        let cap = sheet.cap;
-        let mut interval: usize = 1;
-        while interval <= cap {
-            let plan = plan_at(sheet, interval);
-            if plan.answer == 0 {
-                return IntervalAnswer {
-                    answer: 0,
-                    interval,
-                };
-            }
-            interval += 1;
-        }
+    let asked = sheet::answer(sheet);
+    if asked != 0 {
         return IntervalAnswer {
-            answer: 7,
+            answer: asked,
             interval: 0,
         };
     }
+    let cap = sheet.cap;
+    let mut interval: usize = 1;
+    while interval <= cap {
+        let plan = plan_at(sheet, interval);
+        if plan.answer == 0 {
+            return IntervalAnswer {
+                answer: 0,
+                interval,
+            };
+        }
+        interval += 1;
+    }
     IntervalAnswer {
-        answer: 3,
+        answer: 7,
         interval: 0,
     }
 }

@@ -1,6 +1,6 @@
 -- `schedule::first_plan` meets its contract: the task is ready, and what the search and the instances answer is the answer to question 6.
 -- Assumes nothing.
-use mathlib.Core.Path.{sym, subst}
+use mathlib.Core.Path.{subst}
 use Prim.Native.Nat.{_≤_}
 use native.Mathlib.Omega.{arith}
 use borrow.Author.Needs.{needs}
@@ -8,7 +8,6 @@ use Rattle.dependence.specs.declared.Graph.{Graph}
 use Rattle.dependence.specs.Answer.{TableAnswer, Lags}
 use Rattle.sheet.specs.Sheet.{graphOf}
 use Rattle.sheet.specs.Facts.{ops-most}
-use Rattle.plan.specs.Answers.{PlanAt}
 use Rattle.model.specs.Ready.{ready, task-ok}
 use Rattle.schedule.specs.Served.{lags-found, denied-answer, given-answer}
 use Rattle.schedule.proofs.first_plan.Statement.{statement}
@@ -18,7 +17,7 @@ use Rattle.schedule.proofs.first_plan.Tie as tie
 lags-are : (c : tie.After-lags) → Lags (graphOf (c .before .before .args .sheet)) (c .before .before .args .interval) (c .lags .result)
 lags-are c =
     let s = c .before .before in
-    lags-found (s .args .sheet) (s .args .interval) (s .pre .0) (s .pre .1) (s .pre .2)
+    lags-found (s .pre)
     (subst (λ (g : Graph). TableAnswer g (s .args .interval) (Lags g (s .args .interval)) (c .lags .result)) (c .before .graph-of .ensures) (c .lags .ensures))
 
 graph-of-requires : tie.Need-graph-of-requires
@@ -37,7 +36,7 @@ first-plan-requires : tie.Need-first-plan-requires
 first-plan-requires c κs =
     let t = c .before in
     let s = t .before .before .before in
-    ready (s .args .sheet) (s .args .interval) (t .before .lags .result) (t .task-of .result) (s .pre .0) (s .pre .1) (t .task-of .ensures) (lags-are (t .before))
+    ready (s .args .sheet) (s .args .interval) (t .before .lags .result) (t .task-of .result) (s .pre .accepted .sheet) (s .pre .accepted .interval) (t .task-of .ensures) (lags-are (t .before))
 
 cut-requires : tie.Need-cut-requires
 cut-requires c κs = search needs
@@ -46,12 +45,12 @@ instances-requires : tie.Need-instances-requires
 instances-requires c κs =
     let t = c .before .before .before .before .before in
     let s = t .before .before .before in
-    task-ok (s .args .sheet) (s .args .interval) (t .before .lags .result) (t .task-of .result) (s .pre .0) (s .pre .1) (t .task-of .ensures)
+    task-ok (s .args .sheet) (s .args .interval) (t .before .lags .result) (t .task-of .result) (s .pre .accepted .sheet) (s .pre .accepted .interval) (t .task-of .ensures)
 
 cut-requires-2 : tie.Need-cut-requires-2
 cut-requires-2 c κs =
     let t = c .before .before .before .before .before .before in
-    ops-most (t .before .before .before .pre .0)
+    ops-most (t .before .before .before .pre .accepted .sheet)
 
 returns : tie.Need-returns
 returns c =
@@ -62,7 +61,7 @@ returns c =
     let d = f .before in
     let t = d .before in
     let s = t .before .before .before in
-    given-answer (s .args .sheet) (s .args .interval) (s .pre .0) (s .pre .1) (t .before .lags .result) (t .task-of .result) (t .task-of .ensures) (lags-are (t .before))
+    given-answer (s .pre) (t .before .lags .result) (t .task-of .result) (t .task-of .ensures)
     (d .allowed-domain .result) (d .allowed-domain .ensures) (f .first-plan .ensures) (i .if1 .taken)
     (y .cut .result) (u .instances .result) (c .cut2 .result) (y .cut .ensures) (u .instances .ensures) (c .cut2 .ensures)
 
@@ -75,9 +74,8 @@ returns-2 c =
     let d = f .before in
     let t = d .before in
     let s = t .before .before .before in
-    subst (PlanAt (s .args .sheet) (s .args .interval)) (sym (c .refusal .ensures))
-    (denied-answer (s .args .sheet) (s .args .interval) (s .pre .0) (s .pre .1) (t .before .lags .result) (t .task-of .result) (t .task-of .ensures) (lags-are (t .before))
-    (d .allowed-domain .result) (d .allowed-domain .ensures) (f .first-plan .ensures) (c .before .if1 .left))
+    denied-answer (s .pre) (t .before .lags .result) (t .task-of .result) (t .task-of .ensures)
+    (d .allowed-domain .result) (d .allowed-domain .ensures) (f .first-plan .ensures) (c .before .if1 .left) (c .refusal .ensures)
 
 pub first-plan-spec : {M : Type 1} → statement M
 first-plan-spec =

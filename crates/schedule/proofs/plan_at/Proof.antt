@@ -1,33 +1,42 @@
--- `schedule::plan_at` meets its contract: questions 3, 4 and 5 in order, then the first plan.
+-- `schedule::plan_at` meets its contract: the questions of the sheet and 4, then 5, then the first plan.
 -- Assumes nothing.
-use mathlib.Core.Path.{_≡_, sym, subst}
+use mathlib.Core.Path.{_≡_, refl, subst}
 use borrow.Author.Needs.{needs}
 use lib.ListN.{length}
+use Rattle.sizes.specs.Sizes.{mostOperations}
 use Rattle.dependence.specs.declared.Graph.{Graph}
 use Rattle.dependence.specs.Answer.{WalkAnswer}
 use Rattle.sheet.specs.Sheet.{graphOf}
-use Rattle.plan.specs.Answers.{PlanAt, out-of-range, no-interval}
-use Rattle.schedule.specs.Served.{walk-answer, walk-free}
+use Rattle.sheet.specs.Questions.{at-yes, Accepted, accepted, refuses, goes-on}
+use Rattle.sheet.specs.Loop.{Feasible, walk-five-at, walk-free}
+use Rattle.plan.specs.Answers.{refused}
 use Rattle.schedule.proofs.plan_at.Statement.{statement}
 use Rattle.schedule.proofs.plan_at.Tie as tie
 
+-- the questions before 5 got a yes
+passed : (c : tie.Else1) → Accepted (c .before .before .args .sheet) (c .before .before .args .interval)
+passed c = accepted (c .before .asked .ensures) (c .if1 .left)
+
 -- what the dependence part answers, of the sheet's graph
 walk : (c : tie.After-bad-walk) →
-    let s = c .before .before .before .before .before .before in
+    let s = c .before .before .before .before in
     WalkAnswer (graphOf (s .args .sheet)) (s .args .interval) (c .bad-walk .result .answer) (c .bad-walk .result .«loop_length») (c .bad-walk .result .«loop_edges»)
 walk c =
-    let s = c .before .before .before .before .before .before in
+    let s = c .before .before .before .before in
     subst (λ (g : Graph). WalkAnswer g (s .args .interval) (c .bad-walk .result .answer) (c .bad-walk .result .«loop_length») (c .bad-walk .result .«loop_edges»))
     (c .before .graph-of .ensures) (c .bad-walk .ensures)
 
-edges : (c : tie.After-bad-walk) → length (c .bad-walk .result .«loop_edges») ≡ 24
+edges : (c : tie.After-bad-walk) → length (c .bad-walk .result .«loop_edges») ≡ mostOperations
 edges c = search needs
 
-in-range-requires : tie.Need-in-range-requires
-in-range-requires c κs = search needs
+asked-requires : tie.Need-asked-requires
+asked-requires c κs = search needs
 
-interval-in-range-requires : tie.Need-interval-in-range-requires
-interval-in-range-requires c κs = search needs
+refusal-requires : tie.Need-refusal-requires
+refusal-requires c κs = search needs
+
+returns : tie.Need-returns
+returns c = refuses refused (c .before .before .asked .ensures) (c .before .if1 .taken) (c .refusal .ensures)
 
 graph-of-requires : tie.Need-graph-of-requires
 graph-of-requires c κs = search needs
@@ -35,57 +44,33 @@ graph-of-requires c κs = search needs
 bad-walk-requires : tie.Need-bad-walk-requires
 bad-walk-requires c κs = search needs
 
-returns : tie.Need-returns
-returns c =
-    let i = c .before in
-    let b = i .before .before in
-    let v = b .before .before in
-    let r = v .before .before in
-    walk-answer (r .before .before .args .sheet) (r .before .before .args .interval) (r .before .in-range .ensures .yes (r .if1 .taken)) (v .before .interval-in-range .ensures .yes (v .if2 .taken))
-    (walk b) (edges b) (i .if3 .taken)
+returns-2 : tie.Need-returns-2
+returns-2 c =
+    let b = c .before .before .before in
+    let y = passed (b .before .before) in
+    goes-on refused y (walk-five-at _ _ (y .sheet) (y .interval) (walk b) (edges b) (c .before .if2 .taken) refl)
 
 first-plan-requires : tie.Need-first-plan-requires
 first-plan-requires c κs =
     let b = c .before .before in
-    let v = b .before .before in
-    let r = v .before .before in
-    let ok = r .before .in-range .ensures .yes (r .if1 .taken) in
-    let iv = v .before .interval-in-range .ensures .yes (v .if2 .taken) in
-    (ok, iv, walk-free (r .before .before .args .sheet) (r .before .before .args .interval) ok iv (walk b) (c .if3 .left))
-
-returns-2 : tie.Need-returns-2
-returns-2 c = search needs
-
-refusal-requires : tie.Need-refusal-requires
-refusal-requires c κs = search needs
+    let y = passed (b .before .before) in
+    record { accepted = y; feasible = walk-free _ _ (y .sheet) (y .interval) (walk b) (c .if2 .left) }
 
 returns-3 : tie.Need-returns-3
 returns-3 c =
-    let v = c .before in
-    let r = v .before .before in
-    subst (PlanAt (r .before .before .args .sheet) (r .before .before .args .interval)) (sym (c .refusal .ensures))
-    (no-interval (r .before .in-range .ensures .yes (r .if1 .taken)) (v .before .interval-in-range .ensures .no (v .if2 .left)))
-
-refusal-requires-2 : tie.Need-refusal-requires-2
-refusal-requires-2 c κs = search needs
-
-returns-4 : tie.Need-returns-4
-returns-4 c =
-    let r = c .before in
-    subst (PlanAt (r .before .before .args .sheet) (r .before .before .args .interval)) (sym (c .refusal2 .ensures)) (out-of-range (r .before .in-range .ensures .no (r .if1 .left)))
+    let b = c .before .before .before in
+    let y = passed (b .before .before) in
+    goes-on refused y (at-yes (walk-free _ _ (y .sheet) (y .interval) (walk b) (c .before .if2 .left)) (c .first-plan .ensures))
 
 pub plan-at-spec : {M : Type 1} → statement M
 plan-at-spec =
     tie.close
     (tie.spec
-    in-range-requires
-    interval-in-range-requires
+    asked-requires
+    refusal-requires
+    returns
     graph-of-requires
     bad-walk-requires
-    returns
-    first-plan-requires
     returns-2
-    refusal-requires
-    returns-3
-    refusal-requires-2
-    returns-4)
+    first-plan-requires
+    returns-3)
