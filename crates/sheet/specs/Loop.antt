@@ -58,7 +58,7 @@ module _ {s : Sheet} (ok : InRange s) {L size : ℕ} {edges : List ℕ} (whole :
       front i (yes h) = sym (getD-take size edges i 0 h)
       front i (no h) = r .past i (omega arith) ∙ sym (List·getD-eq-default (slice 0 size edges) 0 (omega (arith, loop-length)))
 
-  loop-made : {A : Type 0} {made : ℕ → List ℕ → A} {a : A} → a ≡ made size edges → Loop s L made a
+  pub loop-made : {A : Type 0} {made : ℕ → List ℕ → A} {a : A} → a ≡ made size edges → Loop s L made a
   loop-made {made = made} e = record {
     walk = slice 0 size edges;
     edges = edges;

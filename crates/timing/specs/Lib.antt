@@ -1,3 +1,6 @@
+-- ---- definitions to believe
 pub mod Answers
+-- ---- laws
 pub mod Served
 pub mod Unique
+pub mod Entries

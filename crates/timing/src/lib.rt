@@ -1,11 +1,12 @@
-// The dependence services on a loop sheet: earliest starts, separations and the recurrence bound. Each puts its questions in numeric order and
-// asks the dependence part about the sheet's graph.
+// The timing services on a loop sheet: earliest starts (ASAP), separations (MinDist) and the recurrence bound (RecMII). Each puts its questions
+// in order and asks the dependence part about the sheet's graph.
 ghost use mathlib.Core.Path.{_≡_};
 ghost use Rattle.timing.specs.Answers.{WalkAt, StartsAt, SeparationsAt, RecurrenceAt, withoutLoop, startsRefused};
 use dependence::BadWalk;
 use dependence::Bound;
 use dependence::Starts;
 use sheet::Sheet;
+use sizes::MOST_OPERATIONS;
 
 fn without_loop(answer: usize) -> BadWalk
     ensures { λ r. ⌜ r ≡ withoutLoop answer ⌝ }
@@ -13,7 +14,7 @@ fn without_loop(answer: usize) -> BadWalk
     BadWalk {
         answer,
         loop_length: 0,
-        loop_edges: [0; 24],
+        loop_edges: [0; MOST_OPERATIONS],
     }
 }
 
@@ -22,13 +23,13 @@ fn starts_refused(answer: usize) -> Starts
 {
     Starts {
         answer,
-        starts: [0; 24],
+        starts: [0; MOST_OPERATIONS],
         loop_length: 0,
-        loop_edges: [0; 24],
+        loop_edges: [0; MOST_OPERATIONS],
     }
 }
 
-// Questions 3, 4 and 5: 0 where there is no bad closed walk, and 5 with the first one. It is the answer number of `separations` too.
+// The sheet's questions, 4 and 5: 0 where there is no bad closed walk, and 5 with the first one. It is the answer number of `separations` too.
 pub fn bad_walk(sheet: Sheet, interval: usize) -> BadWalk
     ensures { λ r. ⌜ WalkAt sheet interval r ⌝ }
 {
@@ -39,7 +40,8 @@ pub fn bad_walk(sheet: Sheet, interval: usize) -> BadWalk
     dependence::bad_walk(sheet::graph_of(sheet), interval)
 }
 
-// The least starts, all at least 0, that meet every dependence; the horizon plays no part. Or 3, 4, 5 with the first bad closed walk.
+// The least starts, all at least 0, that meet every dependence; the horizon plays no part. Or the sheet's refusal, 4,
+// or 5 with the first bad closed walk.
 pub fn earliest_starts(sheet: Sheet, interval: usize) -> Starts
     ensures { λ r. ⌜ StartsAt sheet interval r ⌝ }
 {
@@ -47,32 +49,29 @@ pub fn earliest_starts(sheet: Sheet, interval: usize) -> Starts
     if refusal != 0 {
         return starts_refused(refusal);
     }
-    dependence::earliest(sheet::graph_of(sheet), interval, [0; 24])
+    dependence::earliest(sheet::graph_of(sheet), interval, [0; MOST_OPERATIONS])
 }
 
 // The separation table: each cell the greatest sum over walks of at least one edge, or the mark. All 0 where `bad_walk` refuses.
-pub fn separations(sheet: Sheet, interval: usize) -> [[i32; 24]; 24]
+pub fn separations(sheet: Sheet, interval: usize) -> [[i32; MOST_OPERATIONS]; MOST_OPERATIONS]
     ensures { λ r. ⌜ SeparationsAt sheet interval r ⌝ }
 {
-    if sheet::in_range(sheet) {
-        if sheet::interval_in_range(sheet, interval) {
-            let graph = sheet::graph_of(sheet);
-            return dependence::separations(graph, interval);
-        }
+    if sheet::asked(sheet, interval) != 0 {
+        return [[0; MOST_OPERATIONS]; MOST_OPERATIONS];
     }
-    [[0; 24]; 24]
+    dependence::separations(sheet::graph_of(sheet), interval)
 }
 
-// The least interval in 1 to the cap without a bad closed walk, or 3, 8.
+// The least interval in 1 to the cap without a bad closed walk, or the sheet's refusal, or 8.
 pub fn recurrence_bound(sheet: Sheet) -> Bound
     ensures { λ r. ⌜ RecurrenceAt sheet r ⌝ }
 {
-    if sheet::in_range(sheet) {
-        let graph = sheet::graph_of(sheet);
-        return dependence::recurrence_bound(graph, sheet.cap);
+    let refusal = sheet::answer(sheet);
+    if refusal != 0 {
+        return Bound {
+            answer: refusal,
+            value: 0,
+        };
     }
-    Bound {
-        answer: 3,
-        value: 0,
-    }
+    dependence::recurrence_bound(sheet::graph_of(sheet), sheet.cap)
 }

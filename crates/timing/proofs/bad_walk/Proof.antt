@@ -1,8 +1,9 @@
--- `timing::bad_walk` meets its contract: questions 3 and 4, then the dependence part's answer.
+-- `timing::bad_walk` meets its contract: the sheet's questions and 4, then the dependence part's answer.
 -- Assumes nothing.
 use mathlib.Core.Path.{_≡_, subst}
 use borrow.Author.Needs.{needs}
 use lib.ListN.{length}
+use Rattle.sizes.specs.Sizes.{mostOperations}
 use Rattle.dependence.specs.declared.Graph.{Graph}
 use Rattle.dependence.specs.Answer.{WalkAnswer}
 use Rattle.sheet.specs.Questions.{accepted, refuses}
@@ -11,7 +12,7 @@ use Rattle.timing.specs.Served.{walk-at}
 use Rattle.timing.proofs.bad_walk.Statement.{statement}
 use Rattle.timing.proofs.bad_walk.Tie as tie
 
-edges : (c : tie.After-bad-walk) → length (c .bad-walk .result .«loop_edges») ≡ 24
+edges : (c : tie.After-bad-walk) → length (c .bad-walk .result .«loop_edges») ≡ mostOperations
 edges c = search needs
 
 asked-requires : tie.Need-asked-requires

@@ -1,8 +1,9 @@
--- `timing::earliest_starts` meets its contract: questions 3 and 4, then the dependence part's answer over the floor 0.
+-- `timing::earliest_starts` meets its contract: the sheet's questions and 4, then the dependence part's answer over the floor 0.
 -- Assumes nothing.
 use mathlib.Core.Path.{_≡_, subst}
 use borrow.Author.Needs.{needs}
 use lib.ListN.{length}
+use Rattle.sizes.specs.Sizes.{mostOperations}
 use Rattle.laws.specs.Entry.{zeros}
 use Rattle.dependence.specs.declared.Graph.{Graph}
 use Rattle.dependence.specs.Answer.{StartsAnswer}
@@ -12,10 +13,10 @@ use Rattle.timing.specs.Served.{starts-at}
 use Rattle.timing.proofs.earliest_starts.Statement.{statement}
 use Rattle.timing.proofs.earliest_starts.Tie as tie
 
-starts : (c : tie.After-earliest) → length (c .earliest .result .starts) ≡ 24
+starts : (c : tie.After-earliest) → length (c .earliest .result .starts) ≡ mostOperations
 starts c = search needs
 
-edges : (c : tie.After-earliest) → length (c .earliest .result .«loop_edges») ≡ 24
+edges : (c : tie.After-earliest) → length (c .earliest .result .«loop_edges») ≡ mostOperations
 edges c = search needs
 
 asked-requires : tie.Need-asked-requires
