@@ -37,11 +37,15 @@ One {A} F = (a b : A) → F a → F b → a ≡ b
 pub is-one : {A : Type 0} (r : A) → One (Is r)
 is-one r a b p q = p ∙ sym q
 
+-- what follows may use the yes
+pub asked-one-if : {A P : Type 0} {No Then : A → Type 0} → One No → (P → One Then) → One (Asked P No Then)
+asked-one-if f g a b (at-no n p) (at-no m q) = f a b p q
+asked-one-if f g a b (at-no n p) (at-yes y q) = absurd (n y)
+asked-one-if f g a b (at-yes y p) (at-no n q) = absurd (n y)
+asked-one-if f g a b (at-yes y p) (at-yes z q) = g y a b p q
+
 pub asked-one : {A P : Type 0} {No Then : A → Type 0} → One No → One Then → One (Asked P No Then)
-asked-one f g a b (at-no n p) (at-no m q) = f a b p q
-asked-one f g a b (at-no n p) (at-yes y q) = absurd (n y)
-asked-one f g a b (at-yes y p) (at-no n q) = absurd (n y)
-asked-one f g a b (at-yes y p) (at-yes z q) = g a b p q
+asked-one f g = asked-one-if f (λ _. g)
 
 pub on-sheet-one : {A : Type 0} (refused : ℕ → A) {s : Sheet} {Then : A → Type 0} → One Then → One (OnSheet refused s Then)
 on-sheet-one refused f = asked-one (is-one (refused _)) f

@@ -1,3 +1,5 @@
+-- ---- definitions to believe
 pub mod Pairs
 pub mod Answers
+-- ---- laws
 pub mod Unique

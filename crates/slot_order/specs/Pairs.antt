@@ -10,11 +10,16 @@ use native.Mathlib.Omega.{arith}
 use lib.Dec.{eqb}
 use lib.ListN.{getD}
 use borrow.Author.Tests.{eqb-true}
+use Rattle.sizes.specs.Sizes.{mostOperations}
 use Rattle.laws.specs.Z.{true-false}
 
 -- the pairs of n operations: N × (N − 1) / 2
 abbrev pub pairCount : ℕ → ℕ
 pairCount n = n * (n - 1) / 2
+
+-- the pairs of the most operations
+abbrev pub mostPairs : ℕ
+mostPairs = 276
 
 -- question 14: the pair number is below N × (N − 1) / 2
 abbrev pub PairNumber : ℕ → ℕ → Type 0
@@ -58,7 +63,7 @@ unfolding all
 rule j h = eqb-true (firstPair j) (pairCount j) (all-at (λ j. eqb (firstPair j) (pairCount j)) 25 refl j h)
 
 -- the next j has j more pairs before it
-pub step : (j : ℕ) → j < 24 → firstPair (suc j) ≡ firstPair j + j
+pub step : (j : ℕ) → j < mostOperations → firstPair (suc j) ≡ firstPair j + j
 unfolding all
 step j h = eqb-true (firstPair (suc j)) (firstPair j + j) (all-at (λ j. eqb (firstPair (suc j)) (firstPair j + j)) 24 refl j h)
 
@@ -73,21 +78,21 @@ far j zero l h = absurd (omega arith)
 far j (suc k) l h = far-at j k l h (λ q. far j k q (omega arith)) (ℕ-discrete j k)
 
 -- the number by the table
-pub by-table : {n pair i j : ℕ} → n ≤ 24 → Pair n pair i j → pair ≡ firstPair j + i
+pub by-table : {n pair i j : ℕ} → n ≤ mostOperations → Pair n pair i j → pair ≡ firstPair j + i
 by-table {i = i} {j = j} h p = p .number ∙ ap (λ (x : ℕ). x + i) (sym (rule j (omega (arith, p .within))))
 
-unique-at : {n pair i j i' j' : ℕ} → n ≤ 24 → Pair n pair i j → Pair n pair i' j' → Dec (j ≡ j') → Dec (j < j') → (i ≡ i') × (j ≡ j')
+unique-at : {n pair i j i' j' : ℕ} → n ≤ mostOperations → Pair n pair i j → Pair n pair i' j' → Dec (j ≡ j') → Dec (j < j') → (i ≡ i') × (j ≡ j')
 unique-at {pair = pair} {j = j} {i' = i'} h p q (yes e) d =
     let r : pair ≡ firstPair j + i' = subst (λ (k : ℕ). pair ≡ firstPair k + i') (sym e) (by-table h q) in
     (omega (arith, by-table h p, r), e)
 unique-at {j = j} {j' = j'} h p q (no n) (yes l) = absurd (omega (arith, by-table h p, by-table h q, far j j' l (omega (arith, q .within)), p .before))
 unique-at {j = j} {j' = j'} h p q (no n) (no m) = absurd (omega (arith, by-table h p, by-table h q, far j' j (omega arith) (omega (arith, p .within)), q .before))
 
-pub pair-unique : {n pair i j i' j' : ℕ} → n ≤ 24 → Pair n pair i j → Pair n pair i' j' → (i ≡ i') × (j ≡ j')
+pub pair-unique : {n pair i j i' j' : ℕ} → n ≤ mostOperations → Pair n pair i j → Pair n pair i' j' → (i ≡ i') × (j ≡ j')
 pair-unique {j = j} {j' = j'} h p q = unique-at h p q (ℕ-discrete j j') (decLt j j')
 
 -- a pair of operations has a number below that of all pairs
-pub pair-below : {n pair i j : ℕ} → n ≤ 24 → Pair n pair i j → PairNumber n pair
+pub pair-below : {n pair i j : ℕ} → n ≤ mostOperations → Pair n pair i j → PairNumber n pair
 pair-below {n} {pair} {i} {j} h p = subst (λ (x : ℕ). pair < x) (rule n (omega arith)) (omega (arith, by-table h p, far j n (p .within) (omega arith), p .before))
 
 -- ---- the later operation of a pair, by the table
@@ -95,17 +100,17 @@ pair-below {n} {pair} {i} {j} h p = subst (λ (x : ℕ). pair < x) (rule n (omeg
 -- the pair is one of those with j as the later operation: from the first pair number for j to below that for j + 1
 pub record Between (pair j : ℕ) : Type 0 where
   pub some : 1 ≤ j
-  pub most : j < 24
+  pub most : j < mostOperations
   pub from : firstPair j ≤ pair
   pub to : pair < firstPair (j + 1)
 
-within-at : (n pair j : ℕ) → n ≤ 24 → pair < firstPair n → Between pair j → Dec (j < n) → Dec (n ≡ j) → j < n
+within-at : (n pair j : ℕ) → n ≤ mostOperations → pair < firstPair n → Between pair j → Dec (j < n) → Dec (n ≡ j) → j < n
 within-at n pair j h l b (yes q) d = q
 within-at n pair j h l b (no q) (yes e) = absurd (omega (arith, l, b .from, ap (λ (k : ℕ). firstPair k) e))
 within-at n pair j h l b (no q) (no e) = absurd (omega (arith, l, b .from, far n j (omega arith) (omega (arith, b .most))))
 
 -- it is an operation of the sheet, and the pair's number less the first is the earlier one
-pub between-pair : (n pair j : ℕ) → n ≤ 24 → pair < firstPair n → Between pair j → Pair n pair (pair - firstPair j) j
+pub between-pair : (n pair j : ℕ) → n ≤ mostOperations → pair < firstPair n → Between pair j → Pair n pair (pair - firstPair j) j
 between-pair n pair j h l b = record {
   before = omega (arith, b .from, b .to, step j (b .most), ap (λ (k : ℕ). firstPair k) (add-one j));
   within = within-at n pair j h l b (decLt j n) (ℕ-discrete n j);
@@ -114,12 +119,12 @@ between-pair n pair j h l b = record {
 
 -- ---- the number of all pairs of n operations
 
-pub not-below : (n pair : ℕ) → n ≤ 24 → firstPair n ≤ pair → PairNumber n pair → ⊥
+pub not-below : (n pair : ℕ) → n ≤ mostOperations → firstPair n ≤ pair → PairNumber n pair → ⊥
 not-below n pair h l q = let r : pair < firstPair n = subst (λ (x : ℕ). pair < x) (sym (rule n (omega arith))) q in omega arith
 
-top-at : (n : ℕ) → n ≤ 24 → Dec (n ≡ 24) → firstPair n ≤ 276
-top-at n h (yes e) = subst (λ (k : ℕ). firstPair k ≤ 276) (sym e) (omega arith)
-top-at n h (no e) = let r : firstPair n + n ≤ 276 = far n 24 (omega arith) (omega arith) in omega arith
+top-at : (n : ℕ) → n ≤ mostOperations → Dec (n ≡ mostOperations) → firstPair n ≤ mostPairs
+top-at n h (yes e) = subst (λ (k : ℕ). firstPair k ≤ mostPairs) (sym e) (omega arith)
+top-at n h (no e) = let r : firstPair n + n ≤ mostPairs = far n mostOperations (omega arith) (omega arith) in omega arith
 
-pub top : (n : ℕ) → n ≤ 24 → firstPair n ≤ 276
-top n h = top-at n h (ℕ-discrete n 24)
+pub top : (n : ℕ) → n ≤ mostOperations → firstPair n ≤ mostPairs
+top n h = top-at n h (ℕ-discrete n mostOperations)

@@ -2,10 +2,11 @@
 ghost use Prim.Native.Nat.{_<_};
 ghost use mathlib.Core.Path.{_≡_};
 ghost use Rattle.plan.specs.Answers.{PlanAt};
-ghost use Rattle.slot_order.specs.Pairs.{Between};
+ghost use Rattle.slot_order.specs.Pairs.{Between, mostPairs};
 ghost use Rattle.slot_order.specs.Answers.{SlotOrderAt, Order, refused};
 use plan::PlanAnswer;
 use sheet::Sheet;
+use sizes::MOST_OPERATIONS;
 
 // The first pair number for each j, and at 24 the number of all pairs.
 const FIRST_PAIRS: [usize; 25] = [
@@ -42,7 +43,7 @@ pub struct SlotOrder {
     pub answer: usize,
     pub order: usize,
     pub loop_length: usize,
-    pub loop_edges: [usize; 24],
+    pub loop_edges: [usize; MOST_OPERATIONS],
 }
 
 // A refusal without edges: its number, and 0 for every other number.
@@ -53,13 +54,13 @@ fn refusal(answer: usize) -> SlotOrder
         answer,
         order: 0,
         loop_length: 0,
-        loop_edges: [0; 24],
+        loop_edges: [0; MOST_OPERATIONS],
     }
 }
 
 // The later operation j of a pair.
 fn later_of(pair: usize) -> usize
-    requires { ⌜ pair < 276 ⌝ }
+    requires { ⌜ pair < mostPairs ⌝ }
     ensures { λ r. ⌜ Between pair r ⌝ }
 {
     let mut j: usize = 1;
@@ -116,11 +117,12 @@ fn order_in(sheet: Sheet, interval: usize, pair: usize, plan: PlanAnswer) -> Slo
         answer: 0,
         order: order_of(a, b),
         loop_length: 0,
-        loop_edges: [0; 24],
+        loop_edges: [0; MOST_OPERATIONS],
     }
 }
 
-// The slot order of a pair of operations in the plan at an interval, or why there is none: 3, 4, 5 with the first bad closed walk, 6, 14, 15.
+// The slot order of a pair of operations in the plan at an interval, or why there is none: the plan's refusal (for 5 with the first
+// bad closed walk), 14, 15.
 pub fn slot_order(sheet: Sheet, interval: usize, pair: usize) -> SlotOrder
     ensures { λ r. ⌜ SlotOrderAt sheet interval pair r ⌝ }
 {

@@ -1,33 +1,37 @@
 -- `slot_order::order_in` meets its contract: each answer is a case of `SlotOrderAt`; the table gives the pair's operations.
 -- Assumes nothing.
+use mathlib.Core.Path.{refl}
 use Prim.Native.Nat.{_<_, _-_}
 use native.Mathlib.Omega.{arith}
+use Rattle.sizes.specs.Sizes.{mostOperations}
 use Rattle.sheet.specs.Sheet.{InRange}
+use Rattle.sheet.specs.Questions.{at-no, at-yes}
+use Rattle.plan.specs.Exactly.{accepted-given}
+use Rattle.plan.specs.AfterPlan.{plan-refused, plan-given}
 use Rattle.laws.specs.Tests.{denied, passed}
 use Rattle.sheet.specs.Facts.{ops-most}
-use Rattle.slot_order.specs.Pairs.{Pair, firstPair, between-pair, not-below, top}
-use Rattle.slot_order.specs.Answers.{no-plan, no-pair, no-rivals, ordered}
-use Rattle.slot_order.specs.Unique.{given-range}
+use Rattle.slot_order.specs.Pairs.{Pair, firstPair, pair-below, between-pair, not-below, top}
+use Rattle.slot_order.specs.Answers.{refusedBy}
 use borrow.Author.Needs.{needs}
 use Rattle.slot_order.proofs.order_in.Statement.{statement}
 use Rattle.slot_order.proofs.order_in.Tie as tie
 
 -- a plan was given, so that the sheet is in range
 ranged : (c : tie.Else1) → InRange (c .before .before .args .sheet)
-ranged c = given-range (c .before .before .pre) (c .if1 .left)
+ranged c = accepted-given (c .before .before .pre) (c .if1 .left) .0 .sheet
 
 -- the pair's operations
 found : (c : tie.After-later-of) → Pair (c .before .before .before .before .args .sheet .«op_count») (c .before .before .before .before .args .pair) (c .before .before .before .before .args .pair - firstPair (c .later-of .result)) (c .later-of .result)
 found c = between-pair _ _ _ (ops-most (ranged (c .before .before))) (c .before .if2 .left) (c .later-of .ensures)
 
-below : (c : tie.After-later-of) → (c .before .before .before .before .args .pair - firstPair (c .later-of .result) < 24) × (c .later-of .result < 24)
+below : (c : tie.After-later-of) → (c .before .before .before .before .args .pair - firstPair (c .later-of .result) < mostOperations) × (c .later-of .result < mostOperations)
 below c =
     let p = found c in
     let m = ops-most (ranged (c .before .before)) in
     (omega (arith, p .before, p .within), omega (arith, p .within))
 
 returns : tie.Need-returns
-returns c = no-plan _ (c .before .before .before .pre) (c .before .if1 .taken)
+returns c = plan-refused refusedBy (c .before .before .before .pre) (c .before .if1 .taken) refl
 
 mul-if2 : tie.Need-mul-if2
 mul-if2 c = let h = ops-most (ranged c) in omega arith
@@ -41,7 +45,7 @@ refusal-requires c κs = search needs
 returns-2 : tie.Need-returns-2
 returns-2 c =
     let b = c .before in
-    rw (c .refusal .ensures) (no-pair _ (b .before .before .before .pre) (b .before .if1 .left) (not-below _ _ (ops-most (ranged (b .before))) (b .if2 .taken)))
+    plan-given refusedBy (b .before .before .before .pre) (b .before .if1 .left) (at-no (not-below _ _ (ops-most (ranged (b .before))) (b .if2 .taken)) (c .refusal .ensures))
 
 later-of-requires : tie.Need-later-of-requires
 later-of-requires c κs = let h = top _ (ops-most (ranged (c .before))) in omega (arith, c .if2 .left)
@@ -64,8 +68,10 @@ refusal-requires-2 c κs = search needs
 returns-3 : tie.Need-returns-3
 returns-3 c =
     let b = c .before in
-    rw (c .refusal2 .ensures)
-    (no-rivals _ (b .before .before .before .before .before .before .pre) (b .before .before .before .before .if1 .left) _ _ (found (b .before .before)) (denied (b .before .rivals .ensures) (b .if3 .taken)))
+    let p = found (b .before .before) in
+    plan-given refusedBy (b .before .before .before .before .before .before .pre) (b .before .before .before .before .if1 .left)
+    (at-yes (pair-below (ops-most (ranged (b .before .before .before .before))) p)
+    (record { i = _; j = _; formed = p; rivals = at-no (denied (b .before .rivals .ensures) (b .if3 .taken)) (c .refusal2 .ensures) }))
 
 mul-slot-of : tie.Need-mul-slot-of
 mul-slot-of c = let h = below (c .before .before .before) in omega arith
@@ -90,8 +96,20 @@ order-of-requires c κs = search needs
 
 returns-4 : tie.Need-returns-4
 returns-4 c =
-    ordered _ (c .before .before .before .before .before .before .before .before .before .before .pre) (c .before .before .before .before .before .before .before .before .if1 .left) _ _ (found (c .before .before .before .before .before .before)) (passed (c .before .before .before .before .before .rivals .ensures) (c .before .before .before .before .if3 .left))
-    (rw (c .before .before .slot-of .ensures, c .before .slot-of2 .ensures) at (c .order-of .ensures))
+    let r = c .before .before .before .before in
+    let p = found (r .before .before) in
+    plan-given refusedBy (r .before .before .before .before .before .before .pre) (r .before .before .before .before .if1 .left)
+    (at-yes (pair-below (ops-most (ranged (r .before .before .before .before))) p)
+    (record {
+      i = _;
+      j = _;
+      formed = p;
+      rivals = at-yes (passed (r .before .rivals .ensures) (r .if3 .left)) (record {
+        order = _;
+        ordered = rw (c .before .before .slot-of .ensures, c .before .slot-of2 .ensures) at (c .order-of .ensures);
+        pinned = refl;
+      });
+    }))
 
 pub order-in-spec : {M : Type 1} → statement M
 order-in-spec =
