@@ -16,7 +16,7 @@ pub least-of-unique : {bytes : List ℕ} {r r' : IntervalAnswer} → LeastOf byt
 least-of-unique (unread n) (unread m) = refl
 least-of-unique (unread n) (served z b) = absurd (n z)
 least-of-unique (served z a) (unread m) = absurd (m z)
-least-of-unique (served z a) (served y b) = least-unique a b
+least-of-unique (served z a) (served y b) = least-unique _ _ a b
 
 -- plan text: the answer and the buffer
 pub plan-text-of-unique : {bytes : List ℕ} {L : ℕ} {old new new' : List ℕ} {r r' : Written} → PlanTextOf bytes L old r new → PlanTextOf bytes L old r' new' → (r ≡ r') × (new ≡ new')
@@ -30,4 +30,4 @@ pub slot-order-of-unique : {bytes : List ℕ} {L pair : ℕ} {r r' : OrderAnswer
 slot-order-of-unique (unread-order n) (unread-order m) = refl
 slot-order-of-unique (unread-order n) (served-order z b) = absurd (n z)
 slot-order-of-unique (served-order z a) (unread-order m) = absurd (m z)
-slot-order-of-unique (served-order z a) (served-order y b) = ap orderAnswer (slot-order-unique a b)
+slot-order-of-unique (served-order z a) (served-order y b) = ap orderAnswer (slot-order-unique _ _ a b)

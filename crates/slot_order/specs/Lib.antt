@@ -3,3 +3,4 @@ pub mod Pairs
 pub mod Answers
 -- ---- laws
 pub mod Unique
+pub mod Entries

@@ -67,7 +67,7 @@ module _ (s : Sheet) (L : ℕ) where
         let b = both-true (meetsTest s L ts) (both (instancesTest s us) (apartTest s L ts us)) (a .1) in
         let c = both-true (instancesTest s us) (apartTest s L ts us) (b .1) in
         record {
-          start = λ i l. record { inHorizon = ltb-true (vec ts i) (s .horizon) (up-at (s .«op_count») (λ j. ltb (vec ts j) (s .horizon)) (a .0) i l) };
+          start = λ i l. record { inHorizon = ltb-true (vec ts i) (s .horizon) (up-at (s .«op_count») (λ j. ltb (vec ts j) (s .horizon)) (a .0) i l); holds = tt };
           dependence = meets-is ts (b .0);
           instance = λ i l. let q = instance-is (typeOf s i .instances) (vec us i) (up-at (s .«op_count») (λ j. instanceTest (typeOf s j .instances) (vec us j)) (c .0) i l) in
               record { limited = q .0; unlimited = q .1 };

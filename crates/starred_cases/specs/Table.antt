@@ -7,7 +7,7 @@ use Rattle.sheet.specs.declared.Sheet.{Sheet}
 use Rattle.sheet.specs.declared.Operation.{Operation}
 use Rattle.sheet.specs.declared.ResourceType.{ResourceType}
 use Rattle.reader.specs.Read.{sheetOf}
-use Rattle.starred_cases.specs.Claims.{Claim, refuses-interval, refuses-walk, always-refuses-walk, refuses-plan, gives, always-gives, least-is, least-refused, recurrence-is, recurrence-refused, resource-is, pair-out, pair-in}
+use Rattle.starred_cases.specs.Claims.{Claim, refuses-outside, refuses-walk, always-refuses-walk, refuses-plan, gives, always-gives, least-is, least-refused, recurrence-is, recurrence-refused, resource-is, pair-out, pair-in}
 
 abbrev type : ℕ → ℕ → ResourceType
 type a d = record { instances = a; latency = d }
@@ -60,8 +60,7 @@ table =
     refuses-plan (three 1) 1 (0 ∷ 0 ∷ 0 ∷ []) ∷
     gives (three 2) 2 (0 ∷ 0 ∷ 1 ∷ []) (0 ∷ 1 ∷ 0 ∷ []) ∷
     always-gives alone (0 ∷ []) (0 ∷ []) ∷
-    refuses-interval (ring 3) 0 ∷
-    refuses-interval (ring 3) 5 ∷
+    refuses-outside ∷
     pair-out alone 1 (0 ∷ []) (0 ∷ []) 0 ∷
     pair-in 24 275 ∷
     []
