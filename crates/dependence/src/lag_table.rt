@@ -7,9 +7,9 @@ ghost use Rattle.dependence.specs.Answer.{TableAnswer, Lags};
 ghost use Rattle.dependence.specs.Lag.{LagCells, PeakList};
 use crate::Graph;
 use crate::HIGHEST_FLOOR;
+use crate::edge_totals::net_of;
 use crate::questions::in_range;
 use crate::questions::interval_ok;
-use crate::totals::net_of;
 use net::settle;
 use sizes::MOST_OPERATIONS;
 
