@@ -1,6 +1,6 @@
 -- `dependence::starts::earliest` meets its contract: `settle` on the floor of the operations gives the starts, `first_bad` the walk of refusal 5.
 -- Assumes nothing.
-use mathlib.Core.Path.{_∙_, refl}
+use mathlib.Core.Path.{_∙_, refl, sym}
 use native.Mathlib.Omega.{arith}
 use borrow.Author.Needs.{needs}
 use Rattle.net.specs.Meets.{earliest-floor}
@@ -33,7 +33,7 @@ cut-requires c κs = search needs
 settle-requires : tie.Need-settle-requires
 settle-requires c κs = let t = c .before .before in
     let a = c .before .net-of .ensures in
-    (a .0, omega (arith, a .1 .ops, ranged t .0 .ops-some), cut-below (ranged t .1) (c .cut .ensures))
+    (a .0, omega (arith, a .1 .ops, ranged t .0 .ops-some), cut-below (ranged t .1) (omega (arith, ranged t .0 .ops-some)) (c .cut .ensures))
 
 first-bad-requires : tie.Need-first-bad-requires
 first-bad-requires c κs = (c .before .before .before .net-of .ensures .0, c .before .settle .ensures .some (c .if3 .taken))
@@ -49,8 +49,8 @@ returns-2 c = let t = c .before .before .before .before .before in
     let k = c .before .before .before .cut .ensures in
     let e = c .before .if3 .left in
     starts-found refl refl refl (ranged t .0) (ranged t .1) (spaced t)
-    (to-earliest _ _ _ _ (earliest-floor _ _ _ (λ v h. k .same v h (omega (arith, ranged t .0 .ops-ok))) (earliest-agree (a .1) _ _ (s .none e))))
-    (λ v h l. s .past e v (omega (arith, a .1 .ops)) l ∙ k .rest v h l)
+    (to-earliest _ _ _ _ (earliest-floor _ _ _ (λ v h. sym (k .front v (omega (arith, h)))) (earliest-agree (a .1) _ _ (s .none e))))
+    (λ v h l. s .past e v (omega (arith, a .1 .ops)) l ∙ k .back .rest v (omega (arith, h)))
 
 refused-requires : tie.Need-refused-requires
 refused-requires c κs = search needs

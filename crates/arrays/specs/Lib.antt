@@ -1,0 +1,4 @@
+-- ---- definitions to believe
+pub mod Cut
+-- ---- laws
+pub mod CutLaws
