@@ -2,7 +2,7 @@
 ghost use mathlib.Core.Path.{_≡_};
 ghost use Rattle.laws.specs.Says.{Says};
 ghost use Rattle.sheet.specs.Sheet.{opAt, typeOf};
-ghost use Rattle.plan.specs.Rules.{Rivals, Overlap, slot};
+ghost use Rattle.plan.specs.Rules.{InstanceAllowed, Rivals, Overlap, slot};
 use sheet::Sheet;
 use sizes::MOST_OPERATIONS;
 use sizes::MOST_TYPES;
@@ -28,6 +28,17 @@ pub fn instances_of(sheet: Sheet, op: usize) -> usize
     }
     let found = sheet.types[resource];
     found.instances
+}
+
+// Whether an operation may have an instance: one of its type's, or 0 where the type is unlimited.
+pub fn instance_allowed(sheet: Sheet, op: usize, instance: usize) -> bool
+    ensures { λ r. ⌜ Says (InstanceAllowed sheet op instance) r ⌝ }
+{
+    let limit = instances_of(sheet, op);
+    if limit == 0 {
+        return instance == 0;
+    }
+    instance < limit
 }
 
 // Whether two operations are rivals: different, and of one limited type.
