@@ -1,1 +1,4 @@
+-- ---- definitions to believe
+pub mod Starts
+-- ---- laws
 pub mod Slots

@@ -1,11 +1,16 @@
-// Tests of a plan's rules for one and for two operations: instances, rivals, slots. Any operation number may be asked about.
+// Tests of a plan's rules for one and for two operations: starts, instances, rivals, slots. Any operation number may be asked about.
+// What an operation asks of its own start is decided in starts.rt alone, of its own instance in `instance_allowed` alone.
 ghost use mathlib.Core.Path.{_≡_};
 ghost use Rattle.laws.specs.Says.{Says};
 ghost use Rattle.sheet.specs.Sheet.{opAt, typeOf};
 ghost use Rattle.plan.specs.Rules.{InstanceAllowed, Rivals, Overlap, slot};
+
+mod starts;
+
 use sheet::Sheet;
 use sizes::MOST_OPERATIONS;
 use sizes::MOST_TYPES;
+pub use starts::allowed_starts;
 
 // The type of an operation; past the array it is 0.
 pub fn resource_of(sheet: Sheet, op: usize) -> usize

@@ -6,17 +6,18 @@ use Prim.Native.Nat.{ℕ, _≤_, _<_, _-_}
 use native.Mathlib.Omega.{arith}
 use lib.ListN.{length, length-set}
 use borrow.Author.Needs.{needs}
+use Rattle.sizes.specs.Sizes.{mostOperations}
 use Rattle.laws.specs.Store.{store-more}
 use Rattle.domain.specs.Domain.{rowOf}
-use Rattle.model.specs.Domain.{RowFor}
+use Rattle.rules.specs.Starts.{RowFor}
 use Rattle.model.proofs.allowed.allowed_domain.Statement.{statement}
 use Rattle.model.proofs.allowed.allowed_domain.Tie as tie
 
 abbrev Inv-loop : tie.InvT-loop
-Inv-loop sheet interval domain₀ i₀ domain i = (i ≤ 24) × (length domain ≡ 24) × ((k : ℕ) → k < i → RowFor sheet interval k (rowOf domain k))
+Inv-loop sheet interval domain₀ i₀ domain i = (i ≤ mostOperations) × (length domain ≡ mostOperations) × ((k : ℕ) → k < i → RowFor sheet interval k (rowOf domain k))
 
 abbrev μ-loop : tie.MeasureT-loop
-μ-loop sheet interval domain₀ i₀ domain i = 24 - i
+μ-loop sheet interval domain₀ i₀ domain i = mostOperations - i
 
 loop-holds : tie.Need-loop-holds Inv-loop μ-loop
 loop-holds c = (omega arith, search needs, λ k l. absurd (omega arith))

@@ -1,23 +1,23 @@
--- `model::allowed::allowed_starts` meets its contract: each start passed has its flag.
+-- `rules::allowed_starts` meets its contract: each start passed has its flag.
 -- Assumes nothing.
 use mathlib.Core.Path.{_≡_}
 use mathlib.Core.Bool.{false}
 use Prim.Native.Nat.{ℕ, _≤_, _<_, _-_}
 use native.Mathlib.Omega.{arith}
-use lib.ListN.{length, length-set}
+use lib.ListN.{length, getD, length-set}
 use borrow.Author.Needs.{needs}
+use Rattle.sizes.specs.Sizes.{mostStarts}
 use Rattle.laws.specs.Store.{store-more}
 use Rattle.laws.specs.Says.{Says}
-use Rattle.domain.specs.Domain.{has}
-use Rattle.model.specs.Domain.{InHorizon}
-use Rattle.model.proofs.allowed.allowed_starts.Statement.{statement}
-use Rattle.model.proofs.allowed.allowed_starts.Tie as tie
+use Rattle.rules.specs.Starts.{InHorizon}
+use Rattle.rules.proofs.starts.allowed_starts.Statement.{statement}
+use Rattle.rules.proofs.starts.allowed_starts.Tie as tie
 
 abbrev Inv-loop : tie.InvT-loop
-Inv-loop interval i horizon row₀ t₀ row t = (t ≤ 128) × (length row ≡ 128) × ((k : ℕ) → k < t → Says (InHorizon horizon k) (has row k))
+Inv-loop interval op horizon row₀ t₀ row t = (t ≤ mostStarts) × (length row ≡ mostStarts) × ((k : ℕ) → k < t → Says (InHorizon horizon k) (getD row k false))
 
 abbrev μ-loop : tie.MeasureT-loop
-μ-loop interval i horizon row₀ t₀ row t = 128 - t
+μ-loop interval op horizon row₀ t₀ row t = mostStarts - t
 
 loop-holds : tie.Need-loop-holds Inv-loop μ-loop
 loop-holds c = (omega arith, search needs, λ k l. absurd (omega arith))

@@ -1,9 +1,9 @@
--- `model::allowed::in_horizon` meets its contract: the test is the fact.
+-- `rules::in_horizon` meets its contract: the test is the fact.
 -- Assumes nothing.
 use native.Mathlib.Omega.{arith}
 use borrow.Author.Tests.{ltb-true, ltb-false}
-use Rattle.model.proofs.allowed.in_horizon.Statement.{statement}
-use Rattle.model.proofs.allowed.in_horizon.Tie as tie
+use Rattle.rules.proofs.starts.in_horizon.Statement.{statement}
+use Rattle.rules.proofs.starts.in_horizon.Tie as tie
 
 returns : tie.Need-returns
 returns c = record {
