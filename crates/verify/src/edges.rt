@@ -1,0 +1,46 @@
+// The dependences.
+ghost use Prim.Native.Nat.{_<_};
+ghost use lib.IntN.{pos, negsuc, _+ℤ_};
+ghost use lib.Signed.{_≤ℤ_};
+ghost use Rattle.sizes.specs.Sizes.{mostStarts};
+ghost use Rattle.laws.specs.Entry.{vec};
+ghost use Rattle.laws.specs.Says.{Says};
+ghost use Rattle.dependence.specs.Graph.{InRange, Interval};
+ghost use Rattle.dependence.specs.Rules.{Meets};
+ghost use Rattle.verify.specs.Parts.{Low, Small, EdgeMet};
+use dependence::Graph;
+use sizes::MOST_OPERATIONS;
+
+// Whether two starts keep a dependence with this total.
+fn met(from: usize, total: i32, to: usize) -> bool
+    requires { ⌜ (from < mostStarts) × (to < mostStarts) × Small total ⌝ }
+    ensures { λ r. ⌜ Says ((pos from +ℤ total) ≤ℤ pos to) r ⌝ }
+{
+    from as i32 + total <= to as i32
+}
+
+// Whether the starts keep the dependence of edge k.
+fn edge_met(graph: Graph, interval: usize, starts: [usize; MOST_OPERATIONS], k: usize) -> bool
+    requires { ⌜ InRange graph × Interval interval × Low (graph .ops) (vec starts) × (k < graph .«edge_count») ⌝ }
+    ensures { λ r. ⌜ Says (EdgeMet graph interval (vec starts) k) r ⌝ }
+{
+    let e = graph.edges[k];
+    let total = dependence::total(graph, interval, k);
+    let i = e.from;
+    let j = e.to;
+    met(starts[i], total.value, starts[j])
+}
+
+// Whether the starts keep every dependence.
+pub fn all_met(graph: Graph, interval: usize, starts: [usize; MOST_OPERATIONS]) -> bool
+    requires { ⌜ InRange graph × Interval interval × Low (graph .ops) (vec starts) ⌝ }
+    ensures { λ r. ⌜ Says (Meets graph interval (λ i. pos (vec starts i))) r ⌝ }
+{
+    let n = graph.edge_count;
+    for k in 0..n {
+        if !edge_met(graph, interval, starts, k) {
+            return false;
+        }
+    }
+    true
+}

@@ -1,0 +1,66 @@
+// Whether starts and instances that somebody hands in are a plan: each rule of `plan/specs/Rules` by a test of its own.
+// `is_plan` puts the questions about the sheet and the interval first. `holds` is for services that have put them: it asks for a sheet in range
+// and an interval up to the cap.
+ghost use Rattle.laws.specs.Entry.{vec};
+ghost use Rattle.laws.specs.Says.{Says};
+ghost use Rattle.sheet.specs.Sheet.{InRange, Interval};
+ghost use Rattle.plan.specs.Rules.{Plan};
+ghost use Rattle.verify.specs.Check.{CheckedAt};
+
+mod edges;
+mod operations;
+mod pairs;
+
+use sheet::Sheet;
+use sizes::MOST_OPERATIONS;
+
+// The answer of a check: 0 or a refusal, and with 0 whether it is a plan.
+#[repr(C)]
+pub struct Checked {
+    pub answer: usize,
+    pub plan: bool,
+}
+
+// Whether the starts and instances are a plan at the interval. Entries past the operations play no part.
+pub fn holds(
+    sheet: Sheet,
+    interval: usize,
+    starts: [usize; MOST_OPERATIONS],
+    instances: [usize; MOST_OPERATIONS],
+) -> bool
+    requires { ⌜ InRange sheet × Interval sheet interval ⌝ }
+    ensures { λ r. ⌜ Says (Plan sheet interval (vec starts) (vec instances)) r ⌝ }
+{
+    if !operations::starts_allowed(sheet, interval, starts) {
+        return false;
+    }
+    if !operations::instances_allowed(sheet, instances) {
+        return false;
+    }
+    if !edges::all_met(sheet::graph_of(sheet), interval, starts) {
+        return false;
+    }
+    pairs::all_apart(sheet, interval, starts, instances)
+}
+
+// The same, after the questions about the sheet and question 4.
+pub fn is_plan(
+    sheet: Sheet,
+    interval: usize,
+    starts: [usize; MOST_OPERATIONS],
+    instances: [usize; MOST_OPERATIONS],
+) -> Checked
+    ensures { λ r. ⌜ CheckedAt sheet interval (vec starts) (vec instances) r ⌝ }
+{
+    let refusal = sheet::asked(sheet, interval);
+    if refusal != 0 {
+        return Checked {
+            answer: refusal,
+            plan: false,
+        };
+    }
+    Checked {
+        answer: 0,
+        plan: holds(sheet, interval, starts, instances),
+    }
+}
