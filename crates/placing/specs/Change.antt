@@ -7,14 +7,16 @@ use Prim.Native.Nat.{ℕ, _<_}
 use native.Mathlib.Omega.{arith}
 use lib.ListN.{length, getD, set}
 use lib.Seq.{set-getD, getD-set-same}
+use Rattle.sizes.specs.Sizes.{mostOperations}
 use Rattle.sheet.specs.declared.Sheet.{Sheet}
 use Rattle.sheet.specs.Facts.{ops-most}
+use Rattle.sheet.specs.Questions.{at-no, at-yes}
 use Rattle.placing.specs.declared.Placement.{Placement}
 use Rattle.placing.specs.declared.Table.{Table}
 use Rattle.placing.specs.declared.PlaceAnswer.{PlaceAnswer}
 use Rattle.placing.specs.declared.Change.{Change}
 use Rattle.placing.specs.Table.{nothing, placementAt}
-use Rattle.placing.specs.Answers.{PlaceAt, out-of-range, interval-out, inconsistent, target-out, placed-already, slot-full, placed}
+use Rattle.placing.specs.Answers.{refused, placedOn, PlaceAt}
 
 -- the table with one entry stored
 abbrev pub storing : Table → ℕ → Placement → Table
@@ -28,20 +30,30 @@ changed table c = record { answer = c .answer; instance = c .instance; table = s
 kept : (table : Table) (at : ℕ) → storing table at (placementAt table at) ≡ table
 kept table at = ap {B = Table} (λ (l : List Placement). record { entries = l }) (set-getD (table .entries) at nothing)
 
-module _ {s : Sheet} {L : ℕ} {table : Table} {op start : ℕ} (long : length (table .entries) ≡ 24) {at : ℕ} (here : op < 24 → at ≡ op) where
-  -- the entry of the table afterwards, stored in the table before
-  one-entry : {r : PlaceAnswer} → PlaceAt s L table op start r → storing table at (placementAt (r .table) at) ≡ r .table
-  one-entry (out-of-range _) = kept table at
-  one-entry (interval-out _ _) = kept table at
-  one-entry (inconsistent _ _ _) = kept table at
-  one-entry (target-out _ _) = kept table at
-  one-entry (placed-already _ _ _) = kept table at
-  one-entry (slot-full _ _ _ _) = kept table at
-  one-entry (placed ready target _ {u} _) =
-      let n : op < 24 = omega (arith, target .operation, ops-most (ready .sheet)) in
-      let p : Placement = record { placed = true; start = start; instance = u } in
-      let e : getD (set (table .entries) op p) op nothing ≡ p = getD-set-same (table .entries) op p nothing (omega arith) in
-      subst (λ (k : ℕ). storing table k (getD (set (table .entries) op p) k nothing) ≡ storing table op p) (sym (here n)) (ap (storing table op) e)
+-- the entry of the table afterwards, stored in the table before, makes the table afterwards
+abbrev OneEntry : Table → ℕ → PlaceAnswer → Type 0
+OneEntry table at r = storing table at (placementAt (r .table) at) ≡ r .table
+
+refused-entry : (table : Table) (at : ℕ) {r : PlaceAnswer} {n : ℕ} → r ≡ refused table n → OneEntry table at r
+refused-entry table at e = subst (OneEntry table at) (sym e) (kept table at)
+
+placed-entry : (table : Table) (op start u at : ℕ) → op < length (table .entries) → at ≡ op → OneEntry table at (placedOn table op start u)
+placed-entry table op start u at n here =
+    let p : Placement = record { placed = true; start = start; instance = u } in
+    let e : getD (set (table .entries) op p) op nothing ≡ p = getD-set-same (table .entries) op p nothing n in
+    subst (λ (k : ℕ). OneEntry table k (placedOn table op start u)) (sym here) (ap (storing table op) e)
+
+module _ {s : Sheet} {L : ℕ} {table : Table} {op start : ℕ} (long : length (table .entries) ≡ mostOperations) {at : ℕ} (here : op < mostOperations → at ≡ op) where
+  one-entry : {r : PlaceAnswer} → PlaceAt s L table op start r → OneEntry table at r
+  one-entry (at-no _ e) = refused-entry table at e
+  one-entry (at-yes _ (at-no _ e)) = refused-entry table at e
+  one-entry (at-yes _ (at-yes _ (at-no _ e))) = refused-entry table at e
+  one-entry (at-yes _ (at-yes _ (at-yes _ (at-no _ e)))) = refused-entry table at e
+  one-entry (at-yes _ (at-yes _ (at-yes _ (at-yes _ (at-no _ e))))) = refused-entry table at e
+  one-entry (at-yes _ (at-yes _ (at-yes _ (at-yes _ (at-yes _ (at-no _ e)))))) = refused-entry table at e
+  one-entry (at-yes sheet (at-yes _ (at-yes _ (at-yes target (at-yes _ (at-yes _ g)))))) =
+      let n : op < mostOperations = omega (arith, target .operation, ops-most sheet) in
+      subst (OneEntry table at) (sym (g .pinned)) (placed-entry table op start (g .instance) at (omega arith) (here n))
 
   pub as-changed : {r : PlaceAnswer} {p : Placement} → PlaceAt s L table op start r → p ≡ placementAt (r .table) at
       → PlaceAt s L table op start (changed table (record { answer = r .answer; instance = r .instance; at = at; entry = p }))

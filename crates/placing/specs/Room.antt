@@ -7,7 +7,7 @@ use Rattle.sheet.specs.declared.Sheet.{Sheet}
 use Rattle.sheet.specs.Sheet.{typeOf}
 use Rattle.plan.specs.Rules.{InstanceAllowed}
 use Rattle.placing.specs.declared.Table.{Table}
-use Rattle.placing.specs.Table.{Untaken, Free, LowestFree}
+use Rattle.placing.specs.Table.{Untaken, SomeFree, LowestFree}
 
 -- the instances that the rules allow to operation op are those below r
 pub record Room (s : Sheet) (op r : ℕ) : Type 0 where
@@ -27,8 +27,8 @@ module _ {s : Sheet} {L : ℕ} {table : Table} {op start limit r : ℕ} (room : 
     lowest = λ v g. let n : v < r → ⊥ = λ q. f .passed v q (g .untaken) in omega arith;
   }
 
-  pub none-free : limit ≤ r → (u : ℕ) → Free s L table op start u → ⊥
-  none-free h u g = f .passed u (omega (arith, room .below u (g .allowed))) (g .untaken)
+  pub none-free : limit ≤ r → SomeFree s L table op start → ⊥
+  none-free h w = f .passed (w .instance) (omega (arith, room .below (w .instance) (w .free .allowed))) (w .free .untaken)
 
 -- the room of an unlimited and of a limited type
 pub room-one : {s : Sheet} {op n : ℕ} → n ≡ typeOf s op .instances → n ≡ 0 → Room s op 1

@@ -3,6 +3,7 @@ use Prim.Native.Nat.{ℕ, _<_, _≤_}
 use mathlib.Core.Path.{_≡_}
 use mathlib.Core.Bool.{true, false}
 use lib.ListN.{getD, replicate, set}
+use Rattle.sizes.specs.Sizes.{mostOperations}
 use Rattle.sheet.specs.declared.Sheet.{Sheet}
 use Rattle.plan.specs.Rules.{InstanceAllowed, Rivals, Overlap}
 use Rattle.placing.specs.declared.Placement.{Placement}
@@ -14,17 +15,17 @@ nothing = record { placed = false; start = 0; instance = 0 }
 
 -- a new table has nothing placed
 abbrev pub emptyTable : Table
-emptyTable = record { entries = replicate 24 nothing }
+emptyTable = record { entries = replicate mostOperations nothing }
 
 -- the entry of operation i; past the table nothing is placed
 abbrev pub placementAt : Table → ℕ → Placement
 placementAt table i = getD (table .entries) i nothing
 
--- operation i is placed; question 12 asks that it is not
+-- operation i is placed
 abbrev pub Placed : Table → ℕ → Type 0
 Placed table i = placementAt table i .placed ≡ true
 
--- ---- question 10: the table is consistent
+-- ---- a consistent table
 
 -- starts from 0 to H − 1, instances as in the rules of a plan, both 0 where nothing is placed, nothing placed past the sheet's operations
 pub record EntryAllowed (s : Sheet) (i : ℕ) (p : Placement) : Type 0 where
@@ -48,7 +49,7 @@ Untaken s L table op start u = (j : ℕ) → Taken s L table op start u j → �
 abbrev pub Apart : Sheet → ℕ → Table → ℕ → Type 0
 Apart s L table i = Placed table i → Untaken s L table i (placementAt table i .start) (placementAt table i .instance)
 
--- the whole of question 10: each entry is allowed, and placed rivals are apart
+-- question 10: the placing table is consistent; each entry is allowed, and placed rivals are apart
 pub record Consistent (s : Sheet) (L : ℕ) (table : Table) : Type 0 where
   pub entries : (i : ℕ) → EntryAllowed s i (placementAt table i)
   -- no two placed rivals with one slot and instance
@@ -61,10 +62,19 @@ pub record Target (s : Sheet) (op start : ℕ) : Type 0 where
   pub operation : op < s .«op_count»
   pub inHorizon : start < s .horizon
 
+-- question 12: the operation is unplaced
+abbrev pub Unplaced : Table → ℕ → Type 0
+Unplaced table op = placementAt table op .placed ≡ false
+
 -- an instance that operation op can get at this start
 pub record Free (s : Sheet) (L : ℕ) (table : Table) (op start u : ℕ) : Type 0 where
   pub allowed : InstanceAllowed s op u
   pub untaken : Untaken s L table op start u
+
+-- question 13: an instance is free in the slot
+pub record SomeFree (s : Sheet) (L : ℕ) (table : Table) (op start : ℕ) : Type 0 where
+  pub instance : ℕ
+  pub free : Free s L table op start instance
 
 -- the lowest of them; of an unlimited type that is 0
 pub record LowestFree (s : Sheet) (L : ℕ) (table : Table) (op start u : ℕ) : Type 0 where

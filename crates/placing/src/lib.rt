@@ -1,9 +1,10 @@
 // The placing table (modulo reservation table) of a sheet at an interval: which operations are placed, at which start, on which instance.
 ghost use Prim.Native.Nat.{ℕ, _≤_, _<_};
 ghost use mathlib.Core.Path.{_≡_};
+ghost use Rattle.sizes.specs.Sizes.{mostOperations};
 ghost use Rattle.laws.specs.Says.{Says};
 ghost use Rattle.placing.specs.Table.{placementAt, Placed, EntryAllowed, Taken, Untaken, Apart, Consistent, Target};
-ghost use Rattle.placing.specs.Answers.{NewAt, PlaceAt, whole};
+ghost use Rattle.placing.specs.Answers.{NewAt, AskedToPlace, refused, PlaceAt, whole};
 ghost use Rattle.placing.specs.Change.{changed};
 ghost use Rattle.placing.specs.Room.{Room, FirstUntaken};
 use sheet::Sheet;
@@ -40,7 +41,7 @@ pub struct PlaceAnswer {
 
 // ---- a new table
 
-// A table in which nothing is placed: questions 3 and 4.
+// A table in which nothing is placed: the sheet's questions and 4.
 pub fn new_table(sheet: Sheet, interval: usize) -> NewTable
     ensures { λ r. ⌜ NewAt sheet interval r ⌝ }
 {
@@ -52,13 +53,10 @@ pub fn new_table(sheet: Sheet, interval: usize) -> NewTable
     let table = Table {
         entries: [nothing; MOST_OPERATIONS],
     };
-    if !sheet::in_range(sheet) {
-        return NewTable { answer: 3, table };
+    NewTable {
+        answer: sheet::asked(sheet, interval),
+        table,
     }
-    if !sheet::interval_in_range(sheet, interval) {
-        return NewTable { answer: 4, table };
-    }
-    NewTable { answer: 0, table }
 }
 
 // ---- what is taken
@@ -73,7 +71,7 @@ fn takes(
     instance: usize,
     j: usize,
 ) -> bool
-    requires { ⌜ (op < 24) × (j < 24) ⌝ }
+    requires { ⌜ (op < mostOperations) × (j < mostOperations) ⌝ }
     ensures { λ r. ⌜ Says (Taken sheet interval table op start instance j) r ⌝ }
 {
     let p = table.entries[j];
@@ -98,7 +96,7 @@ fn untaken(
     start: usize,
     instance: usize,
 ) -> bool
-    requires { ⌜ op < 24 ⌝ }
+    requires { ⌜ op < mostOperations ⌝ }
     ensures { λ r. ⌜ Says (Untaken sheet interval table op start instance) r ⌝ }
 {
     let mut j: usize = 0;
@@ -113,7 +111,7 @@ fn untaken(
 
 // How many instances an operation can get: those of its type, or the one of an unlimited type.
 fn room(sheet: Sheet, op: usize) -> usize
-    requires { ⌜ op < 24 ⌝ }
+    requires { ⌜ op < mostOperations ⌝ }
     ensures { λ r. ⌜ Room sheet op r ⌝ }
 {
     let limit = rules::instances_of(sheet, op);
@@ -132,7 +130,7 @@ fn first_untaken(
     start: usize,
     limit: usize,
 ) -> usize
-    requires { ⌜ op < 24 ⌝ }
+    requires { ⌜ op < mostOperations ⌝ }
     ensures { λ r. ⌜ FirstUntaken sheet interval table op start limit r ⌝ }
 {
     let mut u: usize = 0;
@@ -149,7 +147,7 @@ fn first_untaken(
 
 // Whether an entry is one that operation i can have.
 fn entry_allowed(sheet: Sheet, i: usize, p: Placement) -> bool
-    requires { ⌜ i < 24 ⌝ }
+    requires { ⌜ i < mostOperations ⌝ }
     ensures { λ r. ⌜ Says (EntryAllowed sheet i p) r ⌝ }
 {
     if !p.placed {
@@ -183,7 +181,7 @@ fn entries_allowed(sheet: Sheet, table: Table) -> bool
 
 // Whether operation i, where it is placed, shares its instance with no rival.
 fn apart(sheet: Sheet, interval: usize, table: Table, i: usize) -> bool
-    requires { ⌜ i < 24 ⌝ }
+    requires { ⌜ i < mostOperations ⌝ }
     ensures { λ r. ⌜ Says (Apart sheet interval table i) r ⌝ }
 {
     let p = table.entries[i];
@@ -228,8 +226,29 @@ fn target_in_range(sheet: Sheet, op: usize, start: usize) -> bool
     start < sheet.horizon
 }
 
+// The questions before a placing, which every service that places an operation asks first: 0, or the number of the refusal.
+fn asked(sheet: Sheet, interval: usize, table: Table, op: usize, start: usize) -> usize
+    ensures { λ r. ⌜ AskedToPlace sheet interval table op start r ⌝ }
+{
+    let refusal = sheet::asked(sheet, interval);
+    if refusal != 0 {
+        return refusal;
+    }
+    if !consistent(sheet, interval, table) {
+        return 10;
+    }
+    if !target_in_range(sheet, op, start) {
+        return 11;
+    }
+    let p = table.entries[op];
+    if p.placed {
+        return 12;
+    }
+    0
+}
+
 fn refuse(answer: usize, table: Table) -> PlaceAnswer
-    ensures { λ r. ⌜ r ≡ record { answer = answer; instance = 0; table = table } ⌝ }
+    ensures { λ r. ⌜ r ≡ refused table answer ⌝ }
 {
     PlaceAnswer {
         answer,
@@ -238,32 +257,20 @@ fn refuse(answer: usize, table: Table) -> PlaceAnswer
     }
 }
 
-// Places an operation at a start on the lowest instance that is free there: questions 3, 4, 10 to 13. Dependences are not considered.
+// Places an operation at a start on the lowest instance that is free there: the sheet's questions, 4, and 10 to 13. Dependences are not considered.
 pub fn place(sheet: Sheet, interval: usize, table: Table, op: usize, start: usize) -> PlaceAnswer
     ensures { λ r. ⌜ PlaceAt sheet interval table op start r ⌝ }
 {
-    if !sheet::in_range(sheet) {
-        return refuse(3, table);
-    }
-    if !sheet::interval_in_range(sheet, interval) {
-        return refuse(4, table);
-    }
-    if !consistent(sheet, interval, table) {
-        return refuse(10, table);
-    }
-    if !target_in_range(sheet, op, start) {
-        return refuse(11, table);
-    }
-    let mut entries = table.entries;
-    let p = entries[op];
-    if p.placed {
-        return refuse(12, table);
+    let refusal = asked(sheet, interval, table, op, start);
+    if refusal != 0 {
+        return refuse(refusal, table);
     }
     let limit = room(sheet, op);
     let instance = first_untaken(sheet, interval, table, op, start, limit);
     if limit <= instance {
         return refuse(13, table);
     }
+    let mut entries = table.entries;
     entries[op] = Placement {
         placed: true,
         start,
@@ -293,7 +300,7 @@ struct Change {
 
 // The place of an operation's entry; 0 for an operation that the table lacks.
 fn entry_place(op: usize) -> usize
-    ensures { λ r. ⌜ (r < 24) × (op < 24 → r ≡ op) ⌝ }
+    ensures { λ r. ⌜ (r < mostOperations) × (op < mostOperations → r ≡ op) ⌝ }
 {
     if op < MOST_OPERATIONS {
         return op;
@@ -302,7 +309,7 @@ fn entry_place(op: usize) -> usize
 }
 
 fn entry_change(sheet: Sheet, interval: usize, table: Table, op: usize, start: usize) -> Change
-    ensures { λ r. ⌜ (r .at < 24) × PlaceAt sheet interval table op start (changed table r) ⌝ }
+    ensures { λ r. ⌜ (r .at < mostOperations) × PlaceAt sheet interval table op start (changed table r) ⌝ }
 {
     let r = place(sheet, interval, table, op, start);
     let after = r.table;
