@@ -6,16 +6,17 @@ use Prim.Native.Nat.{ℕ, _<_, _≤_}
 use native.Mathlib.Decide.{decLt}
 use native.Mathlib.Omega.{arith}
 use lib.ListN.{length, List·getD-eq-default}
+use Rattle.sizes.specs.Sizes.{mostOperations}
 use Rattle.laws.specs.Z.{true-false}
 use Rattle.sheet.specs.declared.Sheet.{Sheet}
-use Rattle.plan.specs.Rules.{InstanceAllowed}
+use Rattle.plan.specs.Rules.{HoldsAllowed, InstanceAllowed}
 use Rattle.placing.specs.declared.Placement.{Placement}
 use Rattle.placing.specs.declared.Table.{Table}
 use Rattle.placing.specs.Table.{nothing, placementAt, Placed, EntryAllowed}
 
 -- ---- past the end
 
-module _ (table : Table) (n : length (table .entries) ≡ 24) {i : ℕ} (h : 24 ≤ i) where
+module _ (table : Table) (n : length (table .entries) ≡ mostOperations) {i : ℕ} (h : mostOperations ≤ i) where
   pub past-end : placementAt table i ≡ nothing
   past-end = List·getD-eq-default (table .entries) nothing (omega arith)
 
@@ -24,24 +25,26 @@ module _ (table : Table) (n : length (table .entries) ≡ 24) {i : ℕ} (h : 24 
 
 -- ---- an entry
 
-pub empty-allowed : {s : Sheet} {i : ℕ} {p : Placement} → p .placed ≡ false → p .start ≡ 0 → p .instance ≡ 0 → EntryAllowed s i p
-empty-allowed f t u = record {
-  within = λ e. true-false (sym e ∙ f);
-  start = λ e. true-false (sym e ∙ f);
-  instance = λ e. true-false (sym e ∙ f);
-  empty = λ _. (t, u);
-}
+module _ {s : Sheet} {L i : ℕ} {p : Placement} where
+  pub empty-allowed : p .placed ≡ false → p .start ≡ 0 → p .instance ≡ 0 → EntryAllowed s L i p
+  empty-allowed f t u = record {
+    within = λ e. true-false (sym e ∙ f);
+    start = λ e. true-false (sym e ∙ f);
+    holds = λ e. true-false (sym e ∙ f);
+    instance = λ e. true-false (sym e ∙ f);
+    empty = λ _. (t, u);
+  }
 
-pub placed-allowed : {s : Sheet} {i : ℕ} {p : Placement} → p .placed ≡ true → i < s .«op_count» → p .start < s .horizon → InstanceAllowed s i (p .instance) → EntryAllowed s i p
-placed-allowed f n t u = record { within = λ _. n; start = λ _. t; instance = λ _. u; empty = λ e. true-false (sym f ∙ e) }
+  pub placed-allowed : p .placed ≡ true → i < s .«op_count» → p .start < s .horizon → HoldsAllowed s L i (p .start) → InstanceAllowed s i (p .instance) → EntryAllowed s L i p
+  placed-allowed f n t h u = record { within = λ _. n; start = λ _. t; holds = λ _. h; instance = λ _. u; empty = λ e. true-false (sym f ∙ e) }
 
-pub past-allowed : (s : Sheet) (table : Table) → length (table .entries) ≡ 24 → (i : ℕ) → 24 ≤ i → EntryAllowed s i (placementAt table i)
-past-allowed s table n i h = subst (EntryAllowed s i) (sym (past-end table n h)) (empty-allowed refl refl refl)
+pub past-allowed : (s : Sheet) (L : ℕ) (table : Table) → length (table .entries) ≡ mostOperations → (i : ℕ) → mostOperations ≤ i → EntryAllowed s L i (placementAt table i)
+past-allowed s L table n i h = subst (EntryAllowed s L i) (sym (past-end table n h)) (empty-allowed refl refl refl)
 
 -- what holds of each entry of the table, and past its end, holds of every number
-pub everywhere : (P : ℕ → Type 0) → ((i : ℕ) → i < 24 → P i) → ((i : ℕ) → 24 ≤ i → P i) → (i : ℕ) → P i
-everywhere P below past i = at (decLt i 24)
+pub everywhere : (P : ℕ → Type 0) → ((i : ℕ) → i < mostOperations → P i) → ((i : ℕ) → mostOperations ≤ i → P i) → (i : ℕ) → P i
+everywhere P below past i = at (decLt i mostOperations)
   where
-    at : Dec (i < 24) → P i
+    at : Dec (i < mostOperations) → P i
     at (yes h) = below i h
     at (no h) = past i (omega arith)

@@ -7,6 +7,7 @@ use native.Mathlib.Decide.{ℕ-discrete, decLt}
 use native.Mathlib.Omega.{arith}
 use lib.ListN.{length, getD, set, getD-replicate, List·getD-eq-default}
 use lib.Seq.{getD-set-same, getD-set-other}
+use Rattle.sizes.specs.Sizes.{mostOperations}
 use Rattle.laws.specs.Z.{true-false}
 use Rattle.laws.specs.Store.{store}
 use Rattle.sheet.specs.declared.Sheet.{Sheet}
@@ -20,11 +21,11 @@ use Rattle.placing.specs.Entries.{empty-allowed, placed-allowed, everywh
 -- ---- a new table
 
 empty-at : (i : ℕ) → placementAt emptyTable i ≡ nothing
-empty-at = everywhere (λ i. placementAt emptyTable i ≡ nothing) (λ i h. getD-replicate 24 i nothing nothing h) (λ i h. List·getD-eq-default (emptyTable .entries) nothing h)
+empty-at = everywhere (λ i. placementAt emptyTable i ≡ nothing) (λ i h. getD-replicate mostOperations i nothing nothing h) (λ i h. List·getD-eq-default (emptyTable .entries) nothing h)
 
 pub empty-consistent : (s : Sheet) (L : ℕ) → Consistent s L emptyTable
 empty-consistent s L = record {
-  entries = λ i. subst (EntryAllowed s i) (sym (empty-at i)) (empty-allowed refl refl refl);
+  entries = λ i. subst (EntryAllowed s L i) (sym (empty-at i)) (empty-allowed refl refl refl);
   apart = λ i p. true-false (sym p ∙ ap (λ (x : Placement). x .placed) (empty-at i));
 }
 
@@ -88,8 +89,8 @@ module _ (s : Sheet) (L : ℕ) (table : Table) (op start u : ℕ) (within : op <
     pub keeps : Consistent s L (placing table op start u)
     unfolding Takes
     keeps = record {
-      entries = λ i. store (EntryAllowed s) (table .entries) op (record { placed = true; start = start; instance = u }) nothing within
-          (placed-allowed refl (target .operation) (target .inHorizon) (free .allowed)) i (λ n. c .entries i);
+      entries = λ i. store (EntryAllowed s L) (table .entries) op (record { placed = true; start = start; instance = u }) nothing within
+          (placed-allowed refl (target .operation) (target .inHorizon) (free .holds) (free .allowed)) i (λ n. c .entries i);
       apart = λ i. at i (ℕ-discrete i op);
     }
       where

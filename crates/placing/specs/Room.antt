@@ -5,7 +5,7 @@ use native.Mathlib.Omega.{arith}
 use mathlib.Core.Path.{_≡_, sym, _∙_}
 use Rattle.sheet.specs.declared.Sheet.{Sheet}
 use Rattle.sheet.specs.Sheet.{typeOf}
-use Rattle.plan.specs.Rules.{InstanceAllowed}
+use Rattle.plan.specs.Rules.{HoldsAllowed, InstanceAllowed}
 use Rattle.placing.specs.declared.Table.{Table}
 use Rattle.placing.specs.Table.{Untaken, SomeFree, LowestFree}
 
@@ -21,9 +21,9 @@ pub record FirstUntaken (s : Sheet) (L : ℕ) (table : Table) (op start limit r 
   pub most : r ≤ limit
 
 module _ {s : Sheet} {L : ℕ} {table : Table} {op start limit r : ℕ} (room : Room s op limit) (f : FirstUntaken s L table op start limit r) where
-  pub lowest-free : r < limit → LowestFree s L table op start r
-  lowest-free h = record {
-    free = record { allowed = room .allowed r h; untaken = f .here h };
+  pub lowest-free : HoldsAllowed s L op start → r < limit → LowestFree s L table op start r
+  lowest-free holds h = record {
+    free = record { holds = holds; allowed = room .allowed r h; untaken = f .here h };
     lowest = λ v g. let n : v < r → ⊥ = λ q. f .passed v q (g .untaken) in omega arith;
   }
 

@@ -5,7 +5,7 @@ use mathlib.Core.Bool.{true, false}
 use lib.ListN.{getD, replicate, set}
 use Rattle.sizes.specs.Sizes.{mostOperations}
 use Rattle.sheet.specs.declared.Sheet.{Sheet}
-use Rattle.plan.specs.Rules.{InstanceAllowed, Rivals, Overlap}
+use Rattle.plan.specs.Rules.{HoldsAllowed, InstanceAllowed, Rivals, Overlap}
 use Rattle.placing.specs.declared.Placement.{Placement}
 use Rattle.placing.specs.declared.Table.{Table}
 
@@ -27,10 +27,12 @@ Placed table i = placementAt table i .placed ≡ true
 
 -- ---- a consistent table
 
--- starts from 0 to H − 1, instances as in the rules of a plan, both 0 where nothing is placed, nothing placed past the sheet's operations
-pub record EntryAllowed (s : Sheet) (i : ℕ) (p : Placement) : Type 0 where
+-- starts from 0 to H − 1, instances as in the rules of a plan, both 0 where nothing is placed, nothing placed past the
+-- sheet's operations; `holds` is what the rules of a plan ask of a start for holding an instance
+pub record EntryAllowed (s : Sheet) (L i : ℕ) (p : Placement) : Type 0 where
   pub within : p .placed ≡ true → i < s .«op_count»
   pub start : p .placed ≡ true → p .start < s .horizon
+  pub holds : p .placed ≡ true → HoldsAllowed s L i (p .start)
   pub instance : p .placed ≡ true → InstanceAllowed s i (p .instance)
   pub empty : p .placed ≡ false → (p .start ≡ 0) × (p .instance ≡ 0)
 
@@ -51,7 +53,7 @@ Apart s L table i = Placed table i → Untaken s L table i (placementAt table i 
 
 -- question 10: the placing table is consistent; each entry is allowed, and placed rivals are apart
 pub record Consistent (s : Sheet) (L : ℕ) (table : Table) : Type 0 where
-  pub entries : (i : ℕ) → EntryAllowed s i (placementAt table i)
+  pub entries : (i : ℕ) → EntryAllowed s L i (placementAt table i)
   -- no two placed rivals with one slot and instance
   pub apart : (i : ℕ) → Apart s L table i
 
@@ -68,6 +70,7 @@ Unplaced table op = placementAt table op .placed ≡ false
 
 -- an instance that operation op can get at this start
 pub record Free (s : Sheet) (L : ℕ) (table : Table) (op start u : ℕ) : Type 0 where
+  pub holds : HoldsAllowed s L op start
   pub allowed : InstanceAllowed s op u
   pub untaken : Untaken s L table op start u
 

@@ -71,7 +71,7 @@ fn takes(
     instance: usize,
     j: usize,
 ) -> bool
-    requires { ⌜ (op < mostOperations) × (j < mostOperations) ⌝ }
+    requires { ⌜ j < mostOperations ⌝ }
     ensures { λ r. ⌜ Says (Taken sheet interval table op start instance j) r ⌝ }
 {
     let p = table.entries[j];
@@ -96,7 +96,6 @@ fn untaken(
     start: usize,
     instance: usize,
 ) -> bool
-    requires { ⌜ op < mostOperations ⌝ }
     ensures { λ r. ⌜ Says (Untaken sheet interval table op start instance) r ⌝ }
 {
     let mut j: usize = 0;
@@ -111,7 +110,6 @@ fn untaken(
 
 // How many instances an operation can get: those of its type, or the one of an unlimited type.
 fn room(sheet: Sheet, op: usize) -> usize
-    requires { ⌜ op < mostOperations ⌝ }
     ensures { λ r. ⌜ Room sheet op r ⌝ }
 {
     let limit = rules::instances_of(sheet, op);
@@ -130,7 +128,6 @@ fn first_untaken(
     start: usize,
     limit: usize,
 ) -> usize
-    requires { ⌜ op < mostOperations ⌝ }
     ensures { λ r. ⌜ FirstUntaken sheet interval table op start limit r ⌝ }
 {
     let mut u: usize = 0;
@@ -146,9 +143,8 @@ fn first_untaken(
 // ---- question 10
 
 // Whether an entry is one that operation i can have.
-fn entry_allowed(sheet: Sheet, i: usize, p: Placement) -> bool
-    requires { ⌜ i < mostOperations ⌝ }
-    ensures { λ r. ⌜ Says (EntryAllowed sheet i p) r ⌝ }
+fn entry_allowed(sheet: Sheet, interval: usize, i: usize, p: Placement) -> bool
+    ensures { λ r. ⌜ Says (EntryAllowed sheet interval i p) r ⌝ }
 {
     if !p.placed {
         if p.start != 0 {
@@ -162,16 +158,16 @@ fn entry_allowed(sheet: Sheet, i: usize, p: Placement) -> bool
     if sheet.horizon <= p.start {
         return false;
     }
-    p.instance < room(sheet, i)
+    rules::instance_allowed(sheet, i, p.instance)
 }
 
-fn entries_allowed(sheet: Sheet, table: Table) -> bool
-    ensures { λ r. ⌜ Says ((i : ℕ) → EntryAllowed sheet i (placementAt table i)) r ⌝ }
+fn entries_allowed(sheet: Sheet, interval: usize, table: Table) -> bool
+    ensures { λ r. ⌜ Says ((i : ℕ) → EntryAllowed sheet interval i (placementAt table i)) r ⌝ }
 {
     let mut i: usize = 0;
     while i < MOST_OPERATIONS {
         let p = table.entries[i];
-        if !entry_allowed(sheet, i, p) {
+        if !entry_allowed(sheet, interval, i, p) {
             return false;
         }
         i += 1;
@@ -208,7 +204,7 @@ fn all_apart(sheet: Sheet, interval: usize, table: Table) -> bool
 pub fn consistent(sheet: Sheet, interval: usize, table: Table) -> bool
     ensures { λ r. ⌜ Says (Consistent sheet interval table) r ⌝ }
 {
-    if !entries_allowed(sheet, table) {
+    if !entries_allowed(sheet, interval, table) {
         return false;
     }
     all_apart(sheet, interval, table)

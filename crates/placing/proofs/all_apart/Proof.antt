@@ -6,6 +6,7 @@ use native.Mathlib.Omega.{arith}
 use mathlib.Core.Path.{_≡_, sym, _∙_}
 use borrow.Author.Count.{below-more}
 use lib.ListN.{length, length-map}
+use Rattle.sizes.specs.Sizes.{mostOperations}
 use Rattle.laws.specs.Says.{yes-says}
 use Rattle.laws.specs.Tests.{stops, passed}
 use Rattle.placing.specs.Table.{Apart}
@@ -14,12 +15,12 @@ use Rattle.placing.proofs.all_apart.Statement.{statement}
 use Rattle.placing.proofs.all_apart.Tie as tie
 
 abbrev Inv-loop : tie.InvT-loop
-Inv-loop sheet interval table i₀ i = (i ≤ 24) × ((x : ℕ) → x < i → Apart sheet interval table x)
+Inv-loop sheet interval table i₀ i = (i ≤ mostOperations) × ((x : ℕ) → x < i → Apart sheet interval table x)
 
 abbrev μ-loop : tie.MeasureT-loop
-μ-loop sheet interval table i₀ i = 24 - i
+μ-loop sheet interval table i₀ i = mostOperations - i
 
-entries-whole : (c : tie.Start Inv-loop μ-loop) → length (c .args .table .entries) ≡ 24
+entries-whole : (c : tie.Start Inv-loop μ-loop) → length (c .args .table .entries) ≡ mostOperations
 entries-whole c = sym (length-map (c .args .table .entries) _) ∙ c .good .1 .1 .0 .1 .1 .0 .1 .0 .1
 
 loop-holds : tie.Need-loop-holds Inv-loop μ-loop

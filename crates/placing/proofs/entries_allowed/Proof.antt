@@ -6,6 +6,7 @@ use native.Mathlib.Omega.{arith}
 use mathlib.Core.Path.{_≡_, sym, _∙_}
 use borrow.Author.Count.{below-more}
 use lib.ListN.{length, length-map}
+use Rattle.sizes.specs.Sizes.{mostOperations}
 use Rattle.laws.specs.Says.{yes-says}
 use Rattle.laws.specs.Tests.{stops, passed}
 use Rattle.placing.specs.Table.{placementAt, EntryAllowed}
@@ -14,13 +15,13 @@ use Rattle.placing.proofs.entries_allowed.Statement.{statement}
 use Rattle.placing.proofs.entries_allowed.Tie as tie
 
 abbrev Inv-loop : tie.InvT-loop
-Inv-loop sheet table i₀ i = (i ≤ 24) × ((x : ℕ) → x < i → EntryAllowed sheet x (placementAt table x))
+Inv-loop sheet interval table i₀ i = (i ≤ mostOperations) × ((x : ℕ) → x < i → EntryAllowed sheet interval x (placementAt table x))
 
 abbrev μ-loop : tie.MeasureT-loop
-μ-loop sheet table i₀ i = 24 - i
+μ-loop sheet interval table i₀ i = mostOperations - i
 
-entries-whole : (c : tie.Start Inv-loop μ-loop) → length (c .args .t2 .entries) ≡ 24
-entries-whole c = sym (length-map (c .args .t2 .entries) _) ∙ c .good .1 .0 .1 .1 .0 .1 .0 .1
+entries-whole : (c : tie.Start Inv-loop μ-loop) → length (c .args .t3 .entries) ≡ mostOperations
+entries-whole c = sym (length-map (c .args .t3 .entries) _) ∙ c .good .1 .1 .0 .1 .1 .0 .1 .0 .1
 
 loop-holds : tie.Need-loop-holds Inv-loop μ-loop
 loop-holds c = (omega arith, λ x h. absurd (omega arith))
@@ -32,7 +33,7 @@ element-copy-out-p : tie.Need-element-copy-out-p Inv-loop μ-loop
 element-copy-out-p c = search needs
 
 entry-allowed-requires : tie.Need-entry-allowed-requires Inv-loop μ-loop
-entry-allowed-requires c κs = c .before .loop-test .taken
+entry-allowed-requires c κs = search needs
 
 returns : tie.Need-returns Inv-loop μ-loop
 returns c = stops (c .before .entry-allowed .ensures) (λ all. all (c .before .before .before .before .loop .i)) (c .if1 .taken)
@@ -51,7 +52,7 @@ returns-2 c =
     let a = c .before .before in
     yes-says (everywhere _
     (λ i h. c .before .loop .inv .1 i (omega (arith, c .loop-test .left)))
-    (past-allowed (a .args .sheet) (a .args .t2) (entries-whole a)))
+    (past-allowed (a .args .sheet) (a .args .interval) (a .args .t3) (entries-whole a)))
 
 pub entries-allowed-spec : {M : Type 1} → statement M
 entries-allowed-spec =

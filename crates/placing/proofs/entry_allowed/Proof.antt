@@ -3,7 +3,7 @@
 use native.Mathlib.Omega.{arith}
 use borrow.Author.Tests.{not-true, not-false}
 use Rattle.laws.specs.Says.{no-says}
-use Rattle.laws.specs.Tests.{last, lt-says, eq-says}
+use Rattle.laws.specs.Tests.{last, eq-says}
 use Rattle.placing.specs.Entries.{empty-allowed, placed-allowed}
 use borrow.Author.Needs.{needs}
 use Rattle.placing.proofs.entry_allowed.Statement.{statement}
@@ -23,16 +23,16 @@ returns-3 c = no-says (λ x. absurd (omega (arith, c .if3 .taken, x .within (not
 returns-4 : tie.Need-returns-4
 returns-4 c = no-says (λ x. absurd (omega (arith, c .if4 .taken, x .start (not-false _ (c .before .before .before .before .before .if1 .left)))))
 
-room-requires : tie.Need-room-requires
-room-requires c κs = search needs
+instance-allowed-requires : tie.Need-instance-allowed-requires
+instance-allowed-requires c κs = search needs
 
 returns-5 : tie.Need-returns-5
 returns-5 c =
-    let t = not-false _ (c .before .before .before .before .before .before .before .if1 .left) in
-    last (lt-says _ (c .before .room .result))
-    (λ h. placed-allowed t (omega (arith, c .before .before .before .before .before .if3 .left)) (omega (arith, c .before .before .if4 .left)) (c .before .room .ensures .allowed _ h))
-    (λ x. c .before .room .ensures .below _ (x .instance t))
+    let t = not-false _ (c .before .before .before .before .before .before .if1 .left) in
+    last (c .instance-allowed .ensures)
+    (λ u. placed-allowed t (omega (arith, c .before .before .before .before .if3 .left)) (omega (arith, c .before .if4 .left)) tt u)
+    (λ x. x .instance t)
 
 pub entry-allowed-spec : {M : Type 1} → statement M
 entry-allowed-spec =
-    tie.close (tie.spec returns returns-2 returns-3 returns-4 room-requires returns-5)
+    tie.close (tie.spec returns returns-2 returns-3 returns-4 instance-allowed-requires returns-5)

@@ -3,11 +3,12 @@
 use mathlib.Core.Path.{_≡_, refl, sym, _∙_}
 use lib.ListN.{length, length-map}
 use borrow.Author.Needs.{needs}
+use Rattle.sizes.specs.Sizes.{mostOperations}
 use Rattle.placing.specs.Change.{as-changed}
 use Rattle.placing.proofs.entry_change.Statement.{statement}
 use Rattle.placing.proofs.entry_change.Tie as tie
 
-entries-whole : (c : tie.Start) → length (c .args .table .entries) ≡ 24
+entries-whole : (c : tie.Start) → length (c .args .table .entries) ≡ mostOperations
 entries-whole c = sym (length-map (c .args .table .entries) _) ∙ c .good .1 .1 .0 .1 .1 .0 .1 .0 .1
 
 place-requires : tie.Need-place-requires

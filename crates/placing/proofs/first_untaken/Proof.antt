@@ -18,7 +18,7 @@ loop-holds : tie.Need-loop-holds Inv-loop μ-loop
 loop-holds c = (omega arith, λ x h. absurd (omega arith))
 
 untaken-requires : tie.Need-untaken-requires Inv-loop μ-loop
-untaken-requires c κs = c .before .before .pre
+untaken-requires c κs = search needs
 
 returns : tie.Need-returns Inv-loop μ-loop
 returns c =

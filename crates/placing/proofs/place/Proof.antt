@@ -23,10 +23,10 @@ returns : tie.Need-returns
 returns c = refuses-placing (refused _) (c .before .before .asked .ensures) (c .before .if1 .taken) (c .refuse .ensures)
 
 room-requires : tie.Need-room-requires
-room-requires c κs = has-entry (ready-here c)
+room-requires c κs = search needs
 
 first-untaken-requires : tie.Need-first-untaken-requires
-first-untaken-requires c κs = has-entry (ready-here (c .before))
+first-untaken-requires c κs = search needs
 
 refuse-requires-2 : tie.Need-refuse-requires-2
 refuse-requires-2 c κs = search needs
@@ -46,7 +46,7 @@ array-set-from-entries c = has-entry (ready-here (c .before .before .before .bef
 returns-3 : tie.Need-returns-3
 returns-3 c =
     let t = c .before .before in
-    let l = lowest-free (t .before .room .ensures) (t .first-untaken .ensures) (c .before .if2 .left) in
+    let l = lowest-free (t .before .room .ensures) (t .first-untaken .ensures) tt (c .before .if2 .left) in
     goes-on-placing (refused _) (ready-here (t .before .before))
     (at-yes (record { instance = t .first-untaken .result; free = l .free }) (record { instance = t .first-untaken .result; lowest = l; pinned = refl }))
 

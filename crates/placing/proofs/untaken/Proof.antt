@@ -6,6 +6,7 @@ use native.Mathlib.Omega.{arith}
 use mathlib.Core.Path.{_≡_, sym, _∙_}
 use borrow.Author.Count.{below-more}
 use lib.ListN.{length, length-map}
+use Rattle.sizes.specs.Sizes.{mostOperations}
 use Rattle.laws.specs.Says.{yes-says, no-says}
 use Rattle.placing.specs.Table.{Taken}
 use Rattle.placing.specs.Entries.{unplaced-past, everywhere}
@@ -13,19 +14,19 @@ use Rattle.placing.proofs.untaken.Statement.{statement}
 use Rattle.placing.proofs.untaken.Tie as tie
 
 abbrev Inv-loop : tie.InvT-loop
-Inv-loop sheet interval table op start instance j₀ j = (j ≤ 24) × ((x : ℕ) → x < j → Taken sheet interval table op start instance x → ⊥)
+Inv-loop sheet interval table op start instance j₀ j = (j ≤ mostOperations) × ((x : ℕ) → x < j → Taken sheet interval table op start instance x → ⊥)
 
 abbrev μ-loop : tie.MeasureT-loop
-μ-loop sheet interval table op start instance j₀ j = 24 - j
+μ-loop sheet interval table op start instance j₀ j = mostOperations - j
 
-entries-whole : (c : tie.Start Inv-loop μ-loop) → length (c .args .table .entries) ≡ 24
+entries-whole : (c : tie.Start Inv-loop μ-loop) → length (c .args .table .entries) ≡ mostOperations
 entries-whole c = sym (length-map (c .args .table .entries) _) ∙ c .good .1 .1 .0 .1 .1 .0 .1 .0 .1
 
 loop-holds : tie.Need-loop-holds Inv-loop μ-loop
 loop-holds c = (omega arith, λ x h. absurd (omega arith))
 
 takes-requires : tie.Need-takes-requires Inv-loop μ-loop
-takes-requires c κs = (c .before .before .pre, c .loop-test .taken)
+takes-requires c κs = c .loop-test .taken
 
 returns : tie.Need-returns Inv-loop μ-loop
 returns c = no-says (λ u. u (c .before .before .before .loop .j) (c .before .takes .ensures .yes (c .if1 .taken)))
