@@ -1,4 +1,5 @@
 /* Calls of leastplan for host programs in C. Link target/staticlib/libhost.a, which `rt staticlib host` builds.
+   Placing into a table that the host keeps is in leastplan_placing.h.
 
    Each call takes the bytes of a loop sheet and their count; a null pointer with count 0 is an empty sheet (2).
    Each returns an answer and one number, which is 0 with every answer but 0. Nothing is kept between calls.
@@ -17,6 +18,10 @@
 #include <stddef.h>
 #include <stdint.h>
 
+#ifdef __cplusplus
+extern "C" {
+#endif
+
 typedef struct { uint64_t answer; uint64_t interval; } leastplan_interval;
 typedef struct { uint64_t answer; uint64_t count; } leastplan_text;
 typedef struct { uint64_t answer; uint64_t order; } leastplan_order;
@@ -32,7 +37,8 @@ leastplan_interval leastplan_least_interval(const uint8_t *sheet, size_t sheet_l
      5  no starts meet the dependences at this interval
      6  no plan exists at this interval
      9  the buffer does not take the whole text */
-leastplan_text leastplan_plan_text(const uint8_t *sheet, size_t sheet_length, size_t interval, uint8_t *buffer, size_t room);
+leastplan_text leastplan_plan_text(
+    const uint8_t *sheet, size_t sheet_length, size_t interval, uint8_t *buffer, size_t room);
 
 /* Which operation of a rival pair has the smaller slot in the first plan at the interval. The operations i < j are
    pair j * (j - 1) / 2 + i. The number is 0 for the same slot, 1 if i has the smaller one, 2 if j has.
@@ -40,5 +46,9 @@ leastplan_text leastplan_plan_text(const uint8_t *sheet, size_t sheet_length, si
      14  no such pair: the number is not below N * (N - 1) / 2
      15  the two operations are not of one limited type */
 leastplan_order leastplan_slot_order(const uint8_t *sheet, size_t sheet_length, size_t interval, size_t pair);
+
+#ifdef __cplusplus
+}
+#endif
 
 #endif

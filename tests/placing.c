@@ -1,45 +1,27 @@
 /* Keeps a placing table over placements and refusals through leastplan_place_into, and compares the whole table after
-   each with what is worked out by hand. The table is allocated to the byte, so that valgrind tells an access past it. */
-#include <stdbool.h>
-#include <stddef.h>
-#include <stdint.h>
+   each with what is worked out by hand. The table is allocated to the byte, so that valgrind tells an access past
+   it. */
 #include <stdio.h>
 #include <stdlib.h>
 #include <string.h>
 
+#include "leastplan_placing.h"
 #include "expect.h"
 
-/* The structs of crates/sheet and crates/placing. */
-struct resource_type { size_t instances, latency; };
-struct operation { size_t resource; };
-struct edge { size_t from, to; int32_t delay; size_t distance; };
-struct sheet {
-    size_t horizon, cap, type_count;
-    struct resource_type types[8];
-    size_t op_count;
-    struct operation ops[24];
-    size_t edge_count;
-    struct edge edges[96];
-};
-struct placement { bool placed; size_t start, instance; };
-struct table { struct placement entries[24]; };
-struct outcome { size_t answer, instance; };
-extern struct outcome leastplan_place_into(struct table *, struct sheet, size_t interval, size_t op, size_t start);
-
 /* Operations 0, 1 and 3 are rivals with two instances, 2 is of an unlimited type; starts 0 to 3, intervals 1 to 3. */
-static const struct sheet FOUR = {
+static const leastplan_sheet FOUR = {
     .horizon = 4, .cap = 3, .type_count = 2, .types = {{2, 1}, {0, 1}},
     .op_count = 4, .ops = {{0}, {0}, {1}, {0}},
     .edge_count = 1, .edges = {{0, 1, 1, 0}},
 };
 
 /* The table that is kept, and what it is to hold. */
-static struct table *kept, due;
+static leastplan_table *kept, due;
 
 static bool as_due(void)
 {
-    for (int i = 0; i < 24; i++) {
-        const struct placement *a = &kept->entries[i], *b = &due.entries[i];
+    for (int i = 0; i < LEASTPLAN_MOST_OPERATIONS; i++) {
+        const leastplan_placement *a = &kept->entries[i], *b = &due.entries[i];
         if (a->placed != b->placed || a->start != b->start || a->instance != b->instance) return false;
     }
     return true;
@@ -48,15 +30,15 @@ static bool as_due(void)
 /* A placement: the operation gets this instance, and no other entry is altered. */
 static bool placed(size_t interval, size_t op, size_t start, size_t instance)
 {
-    struct outcome got = leastplan_place_into(kept, FOUR, interval, op, start);
-    due.entries[op] = (struct placement){true, start, instance};
+    leastplan_placed got = leastplan_place_into(kept, FOUR, interval, op, start);
+    due.entries[op] = (leastplan_placement){true, start, instance};
     return got.answer == 0 && got.instance == instance && as_due();
 }
 
 /* A refusal: the instance is 0, and the table holds what it held. */
-static bool refused(struct sheet sheet, size_t interval, size_t op, size_t start, size_t answer)
+static bool refused(leastplan_sheet sheet, size_t interval, size_t op, size_t start, size_t answer)
 {
-    struct outcome got = leastplan_place_into(kept, sheet, interval, op, start);
+    leastplan_placed got = leastplan_place_into(kept, sheet, interval, op, start);
     return got.answer == answer && got.instance == 0 && as_due();
 }
 
@@ -73,7 +55,7 @@ static void placements(void)
 /* With operations 0, 1 and 3 at starts 1, 3 and 2 on instances 0, 1 and 0. */
 static void refusals(void)
 {
-    struct sheet wrong = FOUR;
+    leastplan_sheet wrong = FOUR;
     wrong.horizon = 129;
     EXPECT(refused(wrong, 2, 0, 0, 3));
     wrong.horizon = SIZE_MAX;
@@ -95,9 +77,9 @@ static void refusals(void)
 }
 
 /* One entry of the table is another for a call, by the caller's hand. */
-static bool refused_with(size_t i, struct placement entry)
+static bool refused_with(size_t i, leastplan_placement entry)
 {
-    struct placement before = due.entries[i];
+    leastplan_placement before = due.entries[i];
     bool good;
     kept->entries[i] = due.entries[i] = entry;
     good = refused(FOUR, 2, 3, 2, 10);
@@ -107,16 +89,16 @@ static bool refused_with(size_t i, struct placement entry)
 
 static void handed_in(void)
 {
-    kept->entries[3] = due.entries[3] = (struct placement){false, 0, 0};
-    EXPECT(refused_with(0, (struct placement){true, 4, 0}));
-    EXPECT(refused_with(0, (struct placement){true, SIZE_MAX, 0}));
-    EXPECT(refused_with(0, (struct placement){true, 1, 2}));
-    EXPECT(refused_with(0, (struct placement){true, 1, 1}));
-    EXPECT(refused_with(2, (struct placement){true, 1, 1}));
-    EXPECT(refused_with(3, (struct placement){false, 2, 0}));
-    EXPECT(refused_with(3, (struct placement){false, 0, 1}));
-    EXPECT(refused_with(4, (struct placement){true, 0, 0}));
-    EXPECT(refused_with(23, (struct placement){false, 0, SIZE_MAX}));
+    kept->entries[3] = due.entries[3] = (leastplan_placement){false, 0, 0};
+    EXPECT(refused_with(0, (leastplan_placement){true, 4, 0}));
+    EXPECT(refused_with(0, (leastplan_placement){true, SIZE_MAX, 0}));
+    EXPECT(refused_with(0, (leastplan_placement){true, 1, 2}));
+    EXPECT(refused_with(0, (leastplan_placement){true, 1, 1}));
+    EXPECT(refused_with(2, (leastplan_placement){true, 1, 1}));
+    EXPECT(refused_with(3, (leastplan_placement){false, 2, 0}));
+    EXPECT(refused_with(3, (leastplan_placement){false, 0, 1}));
+    EXPECT(refused_with(4, (leastplan_placement){true, 0, 0}));
+    EXPECT(refused_with(23, (leastplan_placement){false, 0, SIZE_MAX}));
     EXPECT(placed(2, 3, 0, 0));
 }
 

@@ -319,7 +319,8 @@ fn entry_change(sheet: Sheet, interval: usize, table: Table, op: usize, start: u
     }
 }
 
-// The same on a table that the caller keeps, in Rattle or in C: it stores the operation's start and instance there; with a refusal the table holds what it held.
+// The same on a table that the caller keeps, in Rattle or in C (include/leastplan_placing.h): it stores the operation's
+// start and instance there; with a refusal the table holds what it held.
 #[no_mangle]
 pub extern "C" fn leastplan_place_into(
     table: &mut Table,
