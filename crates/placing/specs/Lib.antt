@@ -8,3 +8,4 @@ pub mod Asking
 pub mod Keeps
 pub mod Unique
 pub mod Change
+pub mod SameEntries

@@ -1,15 +1,14 @@
 // The placing table (modulo reservation table) of a sheet at an interval: which operations are placed, at which start, on which instance.
-ghost use Prim.Native.Nat.{ℕ, _≤_, _<_};
+ghost use Prim.Native.Nat.{ℕ, _<_};
 ghost use mathlib.Core.Path.{_≡_};
 ghost use Rattle.sizes.specs.Sizes.{mostOperations};
 ghost use Rattle.laws.specs.Says.{Says};
-ghost use Rattle.placing.specs.Table.{placementAt, Placed, EntryAllowed, Taken, Untaken, Apart, Consistent, Target};
+ghost use Rattle.placing.specs.Table.{placementAt, EntryAllowed, Taken, Untaken, Apart, Consistent, Target};
 ghost use Rattle.placing.specs.Answers.{NewAt, AskedToPlace, refused, PlaceAt, whole};
 ghost use Rattle.placing.specs.Change.{changed};
 ghost use Rattle.placing.specs.Room.{Room, FirstUntaken};
 use sheet::Sheet;
 use sizes::MOST_OPERATIONS;
-use sizes::MOST_TYPES;
 
 // Where an operation is placed. Both numbers are 0 where nothing is.
 #[repr(C)]
