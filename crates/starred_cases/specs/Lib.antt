@@ -1,7 +1,6 @@
 -- ---- definitions to believe: the claims and their table
 pub mod Claims
 pub mod Table
-
 -- ---- laws: the tests that show them, and the lemma
 pub mod Tests
 pub mod Lists
