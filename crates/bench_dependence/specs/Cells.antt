@@ -3,12 +3,13 @@ use mathlib.Core.Path.{_≡_}
 use mathlib.Core.List.{List}
 use Prim.Native.Nat.{ℕ, _<_}
 use lib.IntN.{ℤ, pos}
+use Rattle.sizes.specs.Sizes.{mostOperations}
 use Rattle.laws.specs.Entry.{cell}
 
--- the cell in row i and column j of a table of 24 rows and columns, and 0 past them
+-- the cell in row i and column j of a table, and 0 past its rows and columns
 pub data CellAt (t : List (List ℤ)) (i j : ℕ) (z : ℤ) : Type 0 where
-  cell-inside : i < 24 → j < 24 → z ≡ cell t i j → CellAt t i j z
-  cell-past : ¬ ((i < 24) × (j < 24)) → z ≡ pos 0 → CellAt t i j z
+  cell-inside : i < mostOperations → j < mostOperations → z ≡ cell t i j → CellAt t i j z
+  cell-past : ¬ ((i < mostOperations) × (j < mostOperations)) → z ≡ pos 0 → CellAt t i j z
 
 -- such a cell of the table that the answer P tells
 pub record CellOf (P : List (List ℤ) → Type 0) (i j : ℕ) (z : ℤ) : Type 0 where

@@ -1,1 +1,2 @@
+-- ---- definitions to believe
 pub mod Cells

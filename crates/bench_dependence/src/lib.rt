@@ -1,4 +1,5 @@
-// The public functions of `dependence` as C functions, for the benchmark in bench/dependence alone. A table gives one cell.
+// The public functions of `dependence` as C functions, for the benchmark in bench/dependence alone. A table gives one
+// cell.
 ghost use Rattle.laws.specs.Says.{Says};
 ghost use Rattle.dependence.specs.Graph.{InRange};
 ghost use Rattle.dependence.specs.Answer.{TotalAnswer, StartsAnswer, WalkAnswer, BoundAnswer, TableAnswer, Separations, Lags};

@@ -1,8 +1,10 @@
-// Lags: how much later, at least, each operation starts than each other, in any starts that meet every dependence. The plan search uses them.
+// Lags: how much later, at least, each operation starts than each other, in any starts that meet every dependence. The
+// plan search uses them.
 ghost use mathlib.Core.Path.{_≡_};
 ghost use Prim.Native.Nat.{_≤_, _<_};
 ghost use lib.IntN.{pos, _-ℤ_};
-ghost use Rattle.net.specs.Net.{Below};
+ghost use Rattle.sizes.specs.Sizes.{mostOperations};
+ghost use Rattle.net.specs.Net.{Below, highestFloor, highestStart};
 ghost use Rattle.dependence.specs.Answer.{TableAnswer, Lags};
 ghost use Rattle.dependence.specs.Lag.{LagCells, PeakList};
 use crate::Graph;
@@ -13,9 +15,9 @@ use crate::questions::interval_ok;
 use net::settle;
 use sizes::MOST_OPERATIONS;
 
-// The floor 16384 at i, and 0 elsewhere.
+// The highest floor at i, and 0 elsewhere.
 fn peak(i: usize) -> [usize; MOST_OPERATIONS]
-    requires { ⌜ i < 24 ⌝ }
+    requires { ⌜ i < mostOperations ⌝ }
     ensures { λ r. ⌜ PeakList i r ⌝ }
 {
     let mut f = [0usize; MOST_OPERATIONS];
@@ -24,14 +26,14 @@ fn peak(i: usize) -> [usize; MOST_OPERATIONS]
 }
 
 fn lag(at: usize) -> i32
-    requires { ⌜ at ≤ 2000000 ⌝ }
-    ensures { λ r. ⌜ r ≡ pos at -ℤ pos 16384 ⌝ }
+    requires { ⌜ at ≤ highestStart ⌝ }
+    ensures { λ r. ⌜ r ≡ pos at -ℤ pos highestFloor ⌝ }
 {
     at as i32 - HIGHEST_FLOOR as i32
 }
 
 fn lag_row(ops: usize, starts: [usize; MOST_OPERATIONS]) -> [i32; MOST_OPERATIONS]
-    requires { ⌜ (ops ≤ 24) × Below 2000000 starts ⌝ }
+    requires { ⌜ (ops ≤ mostOperations) × Below highestStart starts ⌝ }
     ensures { λ r. ⌜ LagCells ops starts r ⌝ }
 {
     let mut out = [0i32; MOST_OPERATIONS];
@@ -43,8 +45,8 @@ fn lag_row(ops: usize, starts: [usize; MOST_OPERATIONS]) -> [i32; MOST_OPERATION
     out
 }
 
-// Cell i j: how much later, at least, j starts than i, in any starts up to 16384 that meet every dependence. As with `separations`, the answer's
-// number is that of `bad_walk`.
+// Cell i j: how much later, at least, j starts than i, in any starts up to the highest floor that meet every
+// dependence. As with `separations`, the answer's number is that of `bad_walk`.
 pub fn lags(graph: Graph, interval: usize) -> [[i32; MOST_OPERATIONS]; MOST_OPERATIONS]
     ensures { λ r. ⌜ TableAnswer graph interval (Lags graph interval) r ⌝ }
 {

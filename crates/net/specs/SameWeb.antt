@@ -16,6 +16,8 @@ pub record SameWeb (g h : Web) : Type 0 where
   pub to : (k : ℕ) → k < g .count → g .to k ≡ h .to k
   pub weight : (k : ℕ) → k < g .count → g .weight k ≡ h .weight k
 
+-- ---- laws
+
 pub turn : {g h : Web} → SameWeb g h → SameWeb h g
 turn {g} {h} a = record {
   ops = sym (a .ops);

@@ -1,14 +1,16 @@
-// A net: numbered edges between operations, each with a weight of its own, and the earliest starts over a floor.
-// This is an inner layer of `dependence`, in a crate of its own so that each is checked in under a minute. Its one public function, `settle`, has a
-// `requires`. The only caller is `dependence` (`walks` has nets, and calls nothing here). A net comes from `dependence::edge_totals::net_of` alone, whose
-// contract gives `NetOk` and as many operations as the graph has, which question 3 puts at 1 or more. `Below 16384 floor` holds as the floor is all 0,
-// or 16384 at one operation and 0 elsewhere (`lag_table::peak`), or passed `floor_ok` and then `arrays::cut`, which puts 0 past the operations.
+// A net: numbered edges between operations, each with a weight of its own, and the earliest starts over a floor. This
+// is an inner layer of `dependence`, in a crate of its own so that each is checked in under a minute. Its one public
+// function, `settle`, has a `requires`. The only caller is `dependence` (`walks` has nets, and calls nothing here). A
+// net comes from `dependence::edge_totals::net_of` alone, whose contract gives `NetOk` and as many operations as the
+// graph has, which question 3 puts at 1 or more. `Below highestFloor floor` holds as the floor is all 0, or the highest
+// floor at one operation and 0 elsewhere (`lag_table::peak`), or passed `floor_ok` and then `arrays::cut`, which puts 0
+// past the operations.
 ghost use mathlib.Core.Path.{_≡_};
 ghost use Prim.Native.Nat.{_≤_};
-ghost use lib.IntN.{pos, negsuc, _+ℤ_};
-ghost use lib.Signed.{_≤ℤ_, leZ};
-ghost use Rattle.net.specs.Net.{webOf, NetOk, Below};
-ghost use Rattle.net.specs.Starts.{Pushed, Part, AllMet, Settles};
+ghost use lib.IntN.{pos, _+ℤ_};
+ghost use lib.Signed.{leZ};
+ghost use Rattle.net.specs.Net.{webOf, NetOk, Below, highestFloor, highestStart};
+ghost use Rattle.net.specs.Starts.{Addable, Pushed, Part, AllMet, Settles};
 use sizes::MOST_EDGES;
 use sizes::MOST_OPERATIONS;
 
@@ -29,7 +31,7 @@ pub struct Settled {
 
 // A start, after an edge to it.
 fn pushed(from: usize, weight: i32, to: usize) -> usize
-    requires { ⌜ (from ≤ 3000000) × (to ≤ 3000000) × (negsuc 599 ≤ℤ weight) × (weight ≤ℤ pos 600) ⌝ }
+    requires { ⌜ Addable from weight to ⌝ }
     ensures { λ r. ⌜ Pushed from weight to r ⌝ }
 {
     let x = from as i32 + weight;
@@ -38,7 +40,7 @@ fn pushed(from: usize, weight: i32, to: usize) -> usize
 
 // The starts, each after every edge to it.
 fn push_round(net: Net, t: [usize; MOST_OPERATIONS]) -> [usize; MOST_OPERATIONS]
-    requires { ⌜ NetOk (webOf net) × Below 2000000 t ⌝ }
+    requires { ⌜ NetOk (webOf net) × Below highestStart t ⌝ }
     ensures { λ r. ⌜ Part (webOf net) t r (net .count) ⌝ }
 {
     let mut out = t;
@@ -54,14 +56,14 @@ fn push_round(net: Net, t: [usize; MOST_OPERATIONS]) -> [usize; MOST_OPERATIONS]
 }
 
 fn met(from: usize, weight: i32, to: usize) -> bool
-    requires { ⌜ (from ≤ 3000000) × (to ≤ 3000000) × (negsuc 599 ≤ℤ weight) × (weight ≤ℤ pos 600) ⌝ }
+    requires { ⌜ Addable from weight to ⌝ }
     ensures { λ r. ⌜ r ≡ leZ (pos from +ℤ weight) (pos to) ⌝ }
 {
     from as i32 + weight <= to as i32
 }
 
 fn all_met(net: Net, t: [usize; MOST_OPERATIONS]) -> bool
-    requires { ⌜ NetOk (webOf net) × Below 2000000 t ⌝ }
+    requires { ⌜ NetOk (webOf net) × Below highestStart t ⌝ }
     ensures { λ r. ⌜ AllMet (webOf net) t r ⌝ }
 {
     let count = net.count as usize;
@@ -78,10 +80,10 @@ fn all_met(net: Net, t: [usize; MOST_OPERATIONS]) -> bool
     true
 }
 
-// The least starts that are at least the floor and meet every edge, by rounds over the edges; as many rounds as there are operations settle them, or
-// a bad closed walk exists.
+// The least starts that are at least the floor and meet every edge, by rounds over the edges; as many rounds as there
+// are operations settle them, or a bad closed walk exists.
 pub fn settle(net: Net, floor: [usize; MOST_OPERATIONS]) -> Settled
-    requires { ⌜ NetOk (webOf net) × (1 ≤ net .ops) × Below 16384 floor ⌝ }
+    requires { ⌜ NetOk (webOf net) × (1 ≤ net .ops) × Below highestFloor floor ⌝ }
     ensures { λ r. ⌜ Settles (webOf net) floor (r .bad) (r .at) ⌝ }
 {
     let n = net.ops as usize;

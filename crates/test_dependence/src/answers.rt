@@ -1,5 +1,5 @@
-// The answers about one sheet's dependences and its two bounds, at some intervals: by `services` and `plan`, and where those have no such function
-// (totals, lags) by `dependence` on the sheet's graph.
+// The answers about one sheet's dependences and its two bounds, at some intervals: by `timing` and `plan`, and where
+// those have no such function (totals, lags) by `dependence` on the sheet's graph.
 use crate::print;
 use dependence::Graph;
 use sheet::Sheet;

@@ -1,5 +1,5 @@
-// Runs the dependence services and the bounds on each piece of the standard input, a loop sheet each, and prints their answers.
-// tests/dependence_reference.py made the input and the output that is due.
+// Runs the dependence services and the bounds on each piece of the standard input, a loop sheet each, and prints their
+// answers. tests/dependence_reference.py made the input and the output that is due.
 mod answers;
 mod print;
 

@@ -7,6 +7,7 @@ use lib.IntN.{pos, _+ℤ_}
 use lib.Signed.{_≤ℤ_, leZ}
 use borrow.Author.Needs.{needs}
 use borrow.Author.Count.{below-more}
+use Rattle.sizes.specs.Sizes.{mostOperations}
 use Rattle.laws.specs.Z.{kept, fits32, true-false, leZ-true, leZ-false}
 use Rattle.net.specs.Net.{webOf, from-in, to-in}
 use Rattle.laws.specs.Entry.{vec}
@@ -19,10 +20,10 @@ Inv-loop net t count e₀ e = (e ≤ count) × ((x : ℕ) → x < e → (pos (ve
 abbrev μ-loop : tie.MeasureT-loop
 μ-loop net t count e₀ e = count - e
 
-from-here : (c : tie.In-loop Inv-loop μ-loop) → webOf (c .before .before .args .t1) .from (c .before .loop .e) < 24
+from-here : (c : tie.In-loop Inv-loop μ-loop) → webOf (c .before .before .args .t1) .from (c .before .loop .e) < mostOperations
 from-here c = from-in (c .before .before .pre .0) (c .before .loop .e) (c .loop-test .taken)
 
-to-here : (c : tie.In-loop Inv-loop μ-loop) → webOf (c .before .before .args .t1) .to (c .before .loop .e) < 24
+to-here : (c : tie.In-loop Inv-loop μ-loop) → webOf (c .before .before .args .t1) .to (c .before .loop .e) < mostOperations
 to-here c = to-in (c .before .before .pre .0) (c .before .loop .e) (c .loop-test .taken)
 
 said : (c : tie.After-met Inv-loop μ-loop) →
@@ -77,7 +78,12 @@ met-requires c κs = let here = c .before .before .before in
     let e = c .before .before .before .before .loop .e in
     let small = s .pre .0 .small in
     rw (kept {z = webOf (s .args .t1) .weight e} (fits32 (c .met-arg .given)))
-    (omega (arith, s .pre .1 _ (from-here here)), omega (arith, s .pre .1 _ (to-here here)), small .low e (here .loop-test .taken), small .high e (here .loop-test .taken))
+    record {
+      from-ok = omega (arith, s .pre .1 _ (from-here here));
+      to-ok = omega (arith, s .pre .1 _ (to-here here));
+      low = small .low e (here .loop-test .taken);
+      high = small .high e (here .loop-test .taken);
+    }
 
 add-e : tie.Need-add-e Inv-loop μ-loop
 add-e c = search needs

@@ -1,12 +1,14 @@
--- `net::push_round` meets its contract: after e edges the vector is `Part` of the old one, and each edge adds itself (`part-next`).
--- Assumes nothing.
+-- `net::push_round` meets its contract: after e edges the vector is `Part` of the old one, and each edge adds itself
+-- (`part-next`). Assumes nothing.
 use mathlib.Core.Path.{_≡_, subst}
 use Prim.Native.Nat.{_≤_, _<_, _-_}
 use native.Mathlib.Omega.{arith}
 use borrow.Author.Needs.{needs}
+use Rattle.sizes.specs.Sizes.{mostOperations}
 use Rattle.laws.specs.Z.{kept, fits32}
-use Rattle.net.specs.Net.{webOf, from-in, to-in}
-use Rattle.net.specs.Starts.{Part, part-none, part-next}
+use Rattle.net.specs.Net.{webOf, from-in, to-in, highestStart}
+use Rattle.net.specs.Starts.{Part}
+use Rattle.net.specs.StartLaws.{part-none, part-next}
 use Rattle.net.proofs.push_round.Statement.{statement}
 use Rattle.net.proofs.push_round.Tie as tie
 
@@ -16,10 +18,10 @@ Inv-loop net out₀ count e₀ out e = (e ≤ count) × Part (webOf net) out₀ 
 abbrev μ-loop : tie.MeasureT-loop
 μ-loop net out₀ count e₀ out e = count - e
 
-from-here : (c : tie.In-loop Inv-loop μ-loop) → webOf (c .before .before .args .t1) .from (c .before .loop .e) < 24
+from-here : (c : tie.In-loop Inv-loop μ-loop) → webOf (c .before .before .args .t1) .from (c .before .loop .e) < mostOperations
 from-here c = from-in (c .before .before .pre .0) (c .before .loop .e) (c .loop-test .taken)
 
-to-here : (c : tie.In-loop Inv-loop μ-loop) → webOf (c .before .before .args .t1) .to (c .before .loop .e) < 24
+to-here : (c : tie.In-loop Inv-loop μ-loop) → webOf (c .before .before .args .t1) .to (c .before .loop .e) < mostOperations
 to-here c = to-in (c .before .before .pre .0) (c .before .loop .e) (c .loop-test .taken)
 
 cast-count : tie.Need-cast-count Inv-loop μ-loop
@@ -63,9 +65,14 @@ pushed-requires c κs = let here = c .before .before .before in
     let s = c .before .before .before .before .before in
     let l = c .before .before .before .before .loop in
     let small = s .pre .0 .small in
-    let b = l .inv .1 .grows 2000000 (s .pre .1) in
+    let b = l .inv .1 .grows highestStart (s .pre .1) in
     rw (kept {z = webOf (s .args .t1) .weight (l .e)} (fits32 (c .pushed-arg .given)))
-    (omega (arith, b _ (from-here here), here .loop-test .taken, s .pre .0 .count-ok), omega (arith, b _ (to-here here), here .loop-test .taken, s .pre .0 .count-ok), small .low (l .e) (here .loop-test .taken), small .high (l .e) (here .loop-test .taken))
+    record {
+      from-ok = omega (arith, b _ (from-here here), here .loop-test .taken, s .pre .0 .count-ok);
+      to-ok = omega (arith, b _ (to-here here), here .loop-test .taken, s .pre .0 .count-ok);
+      low = small .low (l .e) (here .loop-test .taken);
+      high = small .high (l .e) (here .loop-test .taken);
+    }
 
 mul-out : tie.Need-mul-out Inv-loop μ-loop
 mul-out c = omega (arith, to-here (c .before .before .before .before))

@@ -1,16 +1,18 @@
--- `net::settle` meets its contract: after k rounds every walk of at most k edges is covered (`Stands`). Where every edge is met the starts are the least (`settled`);
--- an edge not met after the last round closes a bad walk (`stuck`). Assumes nothing.
+-- `net::settle` meets its contract: after k rounds every walk of at most k edges is covered (`Stands`). Where every
+-- edge is met the starts are the least (`settled`); an edge not met after the last round closes a bad walk (`stuck`).
+-- Assumes nothing.
 use mathlib.Core.Path.{sym}
 use mathlib.Core.List.{List}
 use Prim.Native.Nat.{ℕ, _≤_, _<_, _-_}
 use native.Mathlib.Omega.{arith}
 use lib.ListN.{replicate, getD-replicate}
 use borrow.Author.Needs.{needs}
+use Rattle.sizes.specs.Sizes.{mostOperations}
 use Rattle.laws.specs.Z.{true-false}
 use Rattle.net.specs.Walk.{Bad}
-use Rattle.net.specs.Net.{webOf}
+use Rattle.net.specs.Net.{webOf, highestStart}
 use Rattle.laws.specs.Entry.{vec}
-use Rattle.net.specs.Starts.{Stands, stands-none, stands-next, settled, stuck, past}
+use Rattle.net.specs.StartLaws.{Stands, stands-none, stands-next, settled, stuck, past}
 use Rattle.net.proofs.settle.Statement.{statement}
 use Rattle.net.proofs.settle.Tie as tie
 
@@ -20,11 +22,11 @@ Inv-loop net n t₀ k₀ t k = (k ≤ n) × Stands (webOf net) (vec t₀) k t ×
 abbrev μ-loop : tie.MeasureT-loop
 μ-loop net n t₀ k₀ t k = n - k
 
-few : (c : tie.In-loop Inv-loop μ-loop) → (v : ℕ) → v < 24 → vec (c .before .loop .t) v ≤ 2000000
+few : (c : tie.In-loop Inv-loop μ-loop) → (v : ℕ) → v < mostOperations → vec (c .before .loop .t) v ≤ highestStart
 few c v h = omega (arith, c .before .loop .inv .1 .few v h, c .loop-test .taken, c .before .before .before .pre .0 .ops-ok)
 
-zero-le-two : (v : ℕ) → v < 24 → vec (replicate 24 0) v ≤ 2000000
-zero-le-two v h = omega (arith, getD-replicate {A = ℕ} 24 v 0 0 h)
+zero-le-two : (v : ℕ) → v < mostOperations → vec (replicate mostOperations 0) v ≤ highestStart
+zero-le-two v h = omega (arith, getD-replicate {A = ℕ} mostOperations v 0 0 h)
 
 cast-n : tie.Need-cast-n Inv-loop μ-loop
 cast-n c = search needs

@@ -1,5 +1,5 @@
--- `test_dependence::run` is safe and ends: each piece ends past where it began, and there are at most as many pieces as bytes passed.
--- Assumes nothing.
+-- `test_dependence::run` is safe and ends: each piece ends past where it began, and there are at most as many pieces as
+-- bytes passed. Assumes nothing.
 use Prim.Native.Nat.{_≤_, _-_}
 use lib.ListN.{length}
 use borrow.Author.Needs.{needs}

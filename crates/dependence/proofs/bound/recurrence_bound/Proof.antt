@@ -1,5 +1,5 @@
--- `dependence::bound::recurrence_bound` meets its contract: each interval below l has a bad closed walk, by what `settle` says at it.
--- Assumes nothing.
+-- `dependence::bound::recurrence_bound` meets its contract: each interval below l has a bad closed walk, by what
+-- `settle` says at it. Assumes nothing.
 use mathlib.Core.Path.{refl}
 use mathlib.Core.List.{List}
 use Prim.Native.Nat.{ℕ, _+_, _≤_, _<_, _-_}

@@ -1,5 +1,5 @@
--- `dependence::edge_totals::net_of` meets its contract: the arrays hold the ends of the edges below k; `totals_of` gives the weights.
--- Assumes nothing.
+-- `dependence::edge_totals::net_of` meets its contract: the arrays hold the ends of the edges below k; `totals_of`
+-- gives the weights. Assumes nothing.
 use mathlib.Core.Path.{_≡_, refl}
 use Prim.Native.Nat.{ℕ, _≤_, _<_, _-_}
 use native.Mathlib.Omega.{arith}

@@ -7,6 +7,7 @@ use native.Mathlib.Omega.{arith}
 use lib.ListN.{getD, length, length-set, getD-replicate}
 use lib.Seq.{getD-set-other}
 use borrow.Author.Needs.{needs}
+use Rattle.sizes.specs.Sizes.{mostOperations}
 use Rattle.laws.specs.Store.{store-more}
 use Rattle.net.specs.Net.{webOf}
 use Rattle.dependence.specs.Graph.{InRange, Interval}
@@ -18,7 +19,7 @@ use Rattle.dependence.proofs.lag_table.lags.Tie as tie
 
 abbrev Inv-loop : tie.InvT-loop
 Inv-loop interval out₀ net ops i₀ out i =
-    (i ≤ ops) × (length out ≡ 24) × ((x : ℕ) → x < i → LagIn (webOf net) ops x (getD out x [])) × ((x : ℕ) → i ≤ x → x < 24 → getD out x [] ≡ zeroRow)
+    (i ≤ ops) × (length out ≡ mostOperations) × ((x : ℕ) → x < i → LagIn (webOf net) ops x (getD out x [])) × ((x : ℕ) → i ≤ x → x < mostOperations → getD out x [] ≡ zeroRow)
 
 abbrev μ-loop : tie.MeasureT-loop
 μ-loop interval out₀ net ops i₀ out i = ops - i
@@ -39,7 +40,7 @@ net-of-requires : tie.Need-net-of-requires Inv-loop μ-loop
 net-of-requires c κs = (ranged c, spaced c)
 
 loop-holds : tie.Need-loop-holds Inv-loop μ-loop
-loop-holds c = (omega arith, refl, λ x h. absurd (omega arith), λ x _ h. getD-replicate 24 x zeroRow [] h)
+loop-holds c = (omega arith, refl, λ x h. absurd (omega arith), λ x _ h. getD-replicate mostOperations x zeroRow [] h)
 
 peak-requires : tie.Need-peak-requires Inv-loop μ-loop
 peak-requires c κs = search needs

@@ -1,5 +1,5 @@
--- `dependence::loops::bad_walk` meets its contract: `settle` says whether there is a bad closed walk, `first_bad` gives the first.
--- Assumes nothing.
+-- `dependence::loops::bad_walk` meets its contract: `settle` says whether there is a bad closed walk, `first_bad` gives
+-- the first. Assumes nothing.
 use mathlib.Core.Path.{refl}
 use native.Mathlib.Omega.{arith}
 use borrow.Author.Needs.{needs}

@@ -1,5 +1,5 @@
--- `dependence::separation::separations` meets its contract: `settle` says that no closed walk is bad, `greatest` gives the sums.
--- Assumes nothing.
+-- `dependence::separation::separations` meets its contract: `settle` says that no closed walk is bad, `greatest` gives
+-- the sums. Assumes nothing.
 use mathlib.Core.Path.{refl}
 use native.Mathlib.Omega.{arith}
 use borrow.Author.Needs.{needs}

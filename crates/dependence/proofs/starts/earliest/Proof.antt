@@ -1,5 +1,5 @@
--- `dependence::starts::earliest` meets its contract: `settle` on the floor of the operations gives the starts, `first_bad` the walk of refusal 5.
--- Assumes nothing.
+-- `dependence::starts::earliest` meets its contract: `settle` on the floor of the operations gives the starts,
+-- `first_bad` the walk of refusal 5. Assumes nothing.
 use mathlib.Core.Path.{_∙_, refl, sym}
 use native.Mathlib.Omega.{arith}
 use borrow.Author.Needs.{needs}
