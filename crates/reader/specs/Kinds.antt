@@ -10,6 +10,7 @@ use Rattle.sheet.specs.declared.ResourceType.{ResourceType}
 use Rattle.sheet.specs.Ranges as range
 use Rattle.sheet.specs.Answer.{numberAnswer, typeAnswer, opAnswer, edgeAnswer}
 use Rattle.sheet.specs.Text.{typeLine, opLine, edgeLine}
+use Rattle.scan.specs.Line.{noMinus}
 use Rattle.reader.specs.Found.{Kind}
 
 -- a line's number at a place, 0 past its numbers
@@ -19,10 +20,6 @@ valueAt vs i = getD vs i (pos 0)
 -- the same where it carries no minus
 abbrev pub natAt : List ℤ → ℕ → ℕ
 natAt vs i = natAbs (valueAt vs i)
-
--- no number of the line may carry a minus
-abbrev pub noMinus : ℕ
-noMinus = 8
 
 -- one number, in the range of a field
 abbrev pub numberKind : List ℕ → ℕ → Kind ℕ

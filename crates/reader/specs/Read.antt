@@ -4,6 +4,7 @@ use mathlib.Core.List.{List, [], _∷_}
 use mathlib.Core.Bool.{cond}
 use lib.Dec.{ltb}
 use lib.ListN.{length}
+use Rattle.sizes.specs.Sizes.{mostTypes, mostOperations, mostEdges}
 use Rattle.dependence.specs.declared.Edge.{Edge}
 use Rattle.dependence.specs.Graph.{noEdge}
 use Rattle.sheet.specs.declared.Sheet.{Sheet}
@@ -20,11 +21,11 @@ sheetOf horizon cap types ops edges = record {
   horizon = horizon;
   cap = cap;
   «type_count» = length types;
-  types = padded 8 noType types;
+  types = padded mostTypes noType types;
   «op_count» = length ops;
-  ops = padded 24 noOperation ops;
+  ops = padded mostOperations noOperation ops;
   «edge_count» = length edges;
-  edges = padded 96 noEdge edges;
+  edges = padded mostEdges noEdge edges;
 }
 
 -- the lines in their order
@@ -51,6 +52,10 @@ toTheEnd (found s []) = accepted s
 toTheEnd (found s (b ∷ bs)) = refusal 2
 toTheEnd (refused n) = refusal n
 
--- the answer to reading these bytes: question 1, at most 4,096 of them, comes before any line
+-- bytes of a sheet
+abbrev pub longestSheet : ℕ
+longestSheet = 4096
+
+-- the answer to reading these bytes: question 1, whether they are not too many, comes before any line
 unfoldable pub readOf : List ℕ → ReadAnswer
-readOf bs = cond (ltb 4096 (length bs)) (refusal 1) (toTheEnd (sheetFrom bs))
+readOf bs = cond (ltb longestSheet (length bs)) (refusal 1) (toTheEnd (sheetFrom bs))

@@ -15,6 +15,7 @@ use lib.Signed.{nonNeg}
 use mir.Syntax.{w32, w64}
 use mir.Val.{SFits, Fits, toZ, ofZ}
 use borrow.Author.Tests.{not-true, not-false, ne-eqb}
+use Rattle.text.specs.Sizes.{fourDigits}
 use Rattle.laws.specs.Z.{kept, true-false, four-digits}
 use Rattle.scan.specs.declared.Line.{Line}
 use Rattle.scan.specs.Line.{Fields, fields, bad, lineOf, seenLine, LineFits}
@@ -33,7 +34,7 @@ writable-plain minus i j [] w n = refl
 writable-plain minus i zero (v ∷ vs) w n = subst (λ (b : Bool). MayStand b v) (ne-eqb i minus (λ e. n (omega arith))) (w .1)
 writable-plain minus i (suc j) (v ∷ vs) w n = writable-plain minus (suc i) j vs (w .2) (λ e. n (omega arith))
 
-plain : (v : ℤ) → natAbs v ≤ 9999 → isNegative v ≡ false → T (nonNeg v) × Fits w64 (natAbs v)
+plain : (v : ℤ) → natAbs v ≤ fourDigits → isNegative v ≡ false → T (nonNeg v) × Fits w64 (natAbs v)
 plain (pos n) h e = (tt, record { fits = omega arith })
 plain (negsuc n) h e = true-false e
 
@@ -104,12 +105,6 @@ module _ {A : Type 0} (k : Kind A) (s bs : List ℕ) (l : Line) (e : seenLine s 
         let v = getD (l .values) i (pos 0) in
         let q : toZ w32 (ofZ w32 (getD (l .values) i (pos 0))) ≡ getD (l .values) i (pos 0) = kept (four-digits v (fits .small i)) in
         rw q (plain v (fits .small i) (not-negative i h n))
-
-    pub nat-at : (i : ℕ) → i < k .count → (i ≡ k .minus → ⊥) → toZ w32 (ofZ w32 (getD (l .values) i (pos 0))) ≡ pos (natAbs (toZ w32 (ofZ w32 (getD (l .values) i (pos 0)))))
-    nat-at i h n =
-        let v = getD (l .values) i (pos 0) in
-        let q : toZ w32 (ofZ w32 (getD (l .values) i (pos 0))) ≡ getD (l .values) i (pos 0) = kept (four-digits v (fits .small i)) in
-        rw q (plain-nat v (not-negative i h n))
 
     module _ (a : A) (made : a ≡ k .make (take (k .count) (l .values))) where
       pub refuses : {answer : ℕ} (none : A) → answer ≡ k .answer a → (answer ≡ 0 → ⊥) → Reads s answer none 0 (lineFrom k bs)

@@ -24,8 +24,8 @@ use sizes::MOST_EDGES;
 use sizes::MOST_OPERATIONS;
 use sizes::MOST_TYPES;
 
-// The most bytes of a sheet.
-const LONGEST: usize = 4096;
+// Bytes of a sheet.
+pub const LONGEST_SHEET: usize = 4096;
 
 // The answer to question 1.
 const TOO_LONG: usize = 1;
@@ -87,7 +87,7 @@ fn accept(
 pub fn read(bytes: &[u8]) -> ReadAnswer
     ensures { λ r. ⌜ r ≡ readOf (now (bytes .entry)) ⌝ }
 {
-    if LONGEST < bytes.len() {
+    if LONGEST_SHEET < bytes.len() {
         return refuse(TOO_LONG);
     }
     let horizon = read_number(bytes, 0, b"horizon=", HORIZON);

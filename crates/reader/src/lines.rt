@@ -4,6 +4,7 @@ ghost use Rattle.reader.specs.Found.{lineFrom};
 ghost use Rattle.reader.specs.Kinds.{numberKind, typeKind, opKind, edgeKind};
 ghost use Rattle.reader.specs.Seen.{Reads};
 use dependence::Edge;
+use scan::NO_MINUS;
 use sheet::NO_EDGE;
 use sheet::NO_OPERATION;
 use sheet::NO_TYPE;
@@ -12,9 +13,6 @@ use sheet::ResourceType;
 
 // The answer to question 2.
 pub const MALFORMED: usize = 2;
-
-// No number of the line may carry a minus.
-const NO_MINUS: usize = 8;
 
 // The place of the delay, which may carry a minus, in its line.
 const DELAY_PLACE: usize = 2;

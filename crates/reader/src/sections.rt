@@ -2,6 +2,7 @@
 ghost use mathlib.Core.List.{[]};
 ghost use Prim.Native.Nat.{_≤_};
 ghost use lib.ListN.{drop, length};
+ghost use Rattle.sizes.specs.Sizes.{mostTypes, mostOperations, mostEdges};
 ghost use Rattle.dependence.specs.Graph.{noEdge};
 ghost use Rattle.sheet.specs.Sheet.{noOperation, noType};
 ghost use Rattle.reader.specs.Found.{linesFrom, sectionFrom};
@@ -32,7 +33,7 @@ pub struct TypesRead {
 }
 
 fn no_types(answer: usize) -> TypesRead
-    ensures { λ r. ⌜ Refuses answer 8 noType (r .answer) (r .count) (r .entries) (r .next) ⌝ }
+    ensures { λ r. ⌜ Refuses answer mostTypes noType (r .answer) (r .count) (r .entries) (r .next) ⌝ }
 {
     TypesRead {
         answer,
@@ -44,8 +45,8 @@ fn no_types(answer: usize) -> TypesRead
 
 // Count lines of types, from `at`.
 fn type_lines(s: &[u8], at: usize, count: usize) -> TypesRead
-    requires { ⌜ (at ≤ length (now s)) × (count ≤ 8) ⌝ }
-    ensures { λ r. ⌜ Entries 8 noType (now (s .entry)) (r .answer) (r .count) (r .entries) (r .next) (linesFrom typeKind count [] (drop at (now (s .entry)))) ⌝ }
+    requires { ⌜ (at ≤ length (now s)) × (count ≤ mostTypes) ⌝ }
+    ensures { λ r. ⌜ Entries mostTypes noType (now (s .entry)) (r .answer) (r .count) (r .entries) (r .next) (linesFrom typeKind count [] (drop at (now (s .entry)))) ⌝ }
 {
     let mut entries = [NO_TYPE; MOST_TYPES];
     let mut p = at;
@@ -70,7 +71,7 @@ fn type_lines(s: &[u8], at: usize, count: usize) -> TypesRead
 
 // The line `types=` with a count, and that many lines of types.
 pub fn read_types(s: &[u8], at: usize) -> TypesRead
-    ensures { λ r. ⌜ Entries 8 noType (now (s .entry)) (r .answer) (r .count) (r .entries) (r .next) (sectionFrom typesKind typeKind (drop at (now (s .entry)))) ⌝ }
+    ensures { λ r. ⌜ Entries mostTypes noType (now (s .entry)) (r .answer) (r .count) (r .entries) (r .next) (sectionFrom typesKind typeKind (drop at (now (s .entry)))) ⌝ }
 {
     let count = read_number(s, at, b"types=", TYPES);
     if count.answer != 0 {
@@ -87,7 +88,7 @@ pub struct OpsRead {
 }
 
 fn no_ops(answer: usize) -> OpsRead
-    ensures { λ r. ⌜ Refuses answer 24 noOperation (r .answer) (r .count) (r .entries) (r .next) ⌝ }
+    ensures { λ r. ⌜ Refuses answer mostOperations noOperation (r .answer) (r .count) (r .entries) (r .next) ⌝ }
 {
     OpsRead {
         answer,
@@ -99,8 +100,8 @@ fn no_ops(answer: usize) -> OpsRead
 
 // Count lines of operations, from `at`.
 fn op_lines(s: &[u8], at: usize, count: usize, types: usize) -> OpsRead
-    requires { ⌜ (at ≤ length (now s)) × (count ≤ 24) ⌝ }
-    ensures { λ r. ⌜ Entries 24 noOperation (now (s .entry)) (r .answer) (r .count) (r .entries) (r .next) (linesFrom (opKind types) count [] (drop at (now (s .entry)))) ⌝ }
+    requires { ⌜ (at ≤ length (now s)) × (count ≤ mostOperations) ⌝ }
+    ensures { λ r. ⌜ Entries mostOperations noOperation (now (s .entry)) (r .answer) (r .count) (r .entries) (r .next) (linesFrom (opKind types) count [] (drop at (now (s .entry)))) ⌝ }
 {
     let mut entries = [NO_OPERATION; MOST_OPERATIONS];
     let mut p = at;
@@ -125,7 +126,7 @@ fn op_lines(s: &[u8], at: usize, count: usize, types: usize) -> OpsRead
 
 // The line `ops=` with a count, and that many lines of operations.
 pub fn read_ops(s: &[u8], at: usize, types: usize) -> OpsRead
-    ensures { λ r. ⌜ Entries 24 noOperation (now (s .entry)) (r .answer) (r .count) (r .entries) (r .next) (sectionFrom opsKind (opKind types) (drop at (now (s .entry)))) ⌝ }
+    ensures { λ r. ⌜ Entries mostOperations noOperation (now (s .entry)) (r .answer) (r .count) (r .entries) (r .next) (sectionFrom opsKind (opKind types) (drop at (now (s .entry)))) ⌝ }
 {
     let count = read_number(s, at, b"ops=", OPERATIONS);
     if count.answer != 0 {
@@ -142,7 +143,7 @@ pub struct EdgesRead {
 }
 
 fn no_edges(answer: usize) -> EdgesRead
-    ensures { λ r. ⌜ Refuses answer 96 noEdge (r .answer) (r .count) (r .entries) (r .next) ⌝ }
+    ensures { λ r. ⌜ Refuses answer mostEdges noEdge (r .answer) (r .count) (r .entries) (r .next) ⌝ }
 {
     EdgesRead {
         answer,
@@ -154,8 +155,8 @@ fn no_edges(answer: usize) -> EdgesRead
 
 // Count lines of edges, from `at`.
 fn edge_lines(s: &[u8], at: usize, count: usize, ops: usize) -> EdgesRead
-    requires { ⌜ (at ≤ length (now s)) × (count ≤ 96) ⌝ }
-    ensures { λ r. ⌜ Entries 96 noEdge (now (s .entry)) (r .answer) (r .count) (r .entries) (r .next) (linesFrom (edgeKind ops) count [] (drop at (now (s .entry)))) ⌝ }
+    requires { ⌜ (at ≤ length (now s)) × (count ≤ mostEdges) ⌝ }
+    ensures { λ r. ⌜ Entries mostEdges noEdge (now (s .entry)) (r .answer) (r .count) (r .entries) (r .next) (linesFrom (edgeKind ops) count [] (drop at (now (s .entry)))) ⌝ }
 {
     let mut entries = [NO_EDGE; MOST_EDGES];
     let mut p = at;
@@ -180,7 +181,7 @@ fn edge_lines(s: &[u8], at: usize, count: usize, ops: usize) -> EdgesRead
 
 // The line `edges=` with a count, and that many lines of edges.
 pub fn read_edges(s: &[u8], at: usize, ops: usize) -> EdgesRead
-    ensures { λ r. ⌜ Entries 96 noEdge (now (s .entry)) (r .answer) (r .count) (r .entries) (r .next) (sectionFrom edgesKind (edgeKind ops) (drop at (now (s .entry)))) ⌝ }
+    ensures { λ r. ⌜ Entries mostEdges noEdge (now (s .entry)) (r .answer) (r .count) (r .entries) (r .next) (sectionFrom edgesKind (edgeKind ops) (drop at (now (s .entry)))) ⌝ }
 {
     let count = read_number(s, at, b"edges=", EDGES);
     if count.answer != 0 {

@@ -6,8 +6,10 @@ use Prim.Native.Nat.{ℕ, suc, _≤_, _<_}
 use native.Mathlib.Omega.{arith}
 use lib.IntN.{ℤ, pos, negsuc, natAbs}
 use lib.ListN.{length}
+use Rattle.text.specs.Sizes.{fourDigits}
 use Rattle.laws.specs.Z.{zed}
 use Rattle.dependence.specs.declared.Edge.{Edge}
+use Rattle.scan.specs.Line.{noMinus}
 use Rattle.scan.specs.RoundTrip.{Writable}
 use Rattle.sheet.specs.Ranges as range
 use Rattle.sheet.specs.Table.{range-short, inside-short}
@@ -26,12 +28,12 @@ pub record Lawful {A : Type 0} (k : Kind A) : Type 0 where
   pub writable : (a : A) → k .answer a ≡ 0 → Writable (k .minus) 0 (k .values a)
 
 -- a number in the range of a field has at most four digits
-short : (field : ℕ) (z : ℤ) → range.Inside field z → natAbs z ≤ 9999
+short : (field : ℕ) (z : ℤ) → range.Inside field z → natAbs z ≤ fourDigits
 short field (pos n) i = inside-short i
 short field (negsuc n) i = omega (arith, zed, i .low, range-short field .low .low)
 
 module _ (key : List ℕ) (field : ℕ) where
-  number-forth : (vs : List ℤ) → length vs ≡ 1 → Writable 8 0 vs → numberKind key field .values (numberKind key field .make vs) ≡ vs
+  number-forth : (vs : List ℤ) → length vs ≡ 1 → Writable noMinus 0 vs → numberKind key field .values (numberKind key field .make vs) ≡ vs
   number-forth [] e w = absurd (omega arith)
   number-forth (v ∷ []) e w = ap (λ (z : ℤ). z ∷ []) (sym (plain-nat v (w .1)))
   number-forth (v ∷ x ∷ vs) e w = absurd (omega arith)
@@ -44,7 +46,7 @@ module _ (key : List ℕ) (field : ℕ) where
     writable = λ n e. (inside-short (number-judged field n .accepted e), refl, tt);
   }
 
-type-forth : (vs : List ℤ) → length vs ≡ 2 → Writable 8 0 vs → typeKind .values (typeKind .make vs) ≡ vs
+type-forth : (vs : List ℤ) → length vs ≡ 2 → Writable noMinus 0 vs → typeKind .values (typeKind .make vs) ≡ vs
 type-forth [] e w = absurd (omega arith)
 type-forth (a ∷ []) e w = absurd (omega arith)
 type-forth (a ∷ b ∷ []) e w = λ i. sym (plain-nat a (w .1)) i ∷ sym (plain-nat b (w .2 .1)) i ∷ []
@@ -58,8 +60,8 @@ type-lawful = record {
   writable = λ t e. let x = type-judged t .accepted e in (inside-short (x .instances), refl, (inside-short (x .latency), refl, tt));
 }
 
-module _ (types : ℕ) (few : types ≤ 9999) where
-  op-forth : (vs : List ℤ) → length vs ≡ 1 → Writable 8 0 vs → opKind types .values (opKind types .make vs) ≡ vs
+module _ (types : ℕ) (few : types ≤ fourDigits) where
+  op-forth : (vs : List ℤ) → length vs ≡ 1 → Writable noMinus 0 vs → opKind types .values (opKind types .make vs) ≡ vs
   op-forth [] e w = absurd (omega arith)
   op-forth (v ∷ []) e w = ap (λ (z : ℤ). z ∷ []) (sym (plain-nat v (w .1)))
   op-forth (v ∷ x ∷ vs) e w = absurd (omega arith)
@@ -72,7 +74,7 @@ module _ (types : ℕ) (few : types ≤ 9999) where
     writable = λ o e. let x = op-judged types o .accepted e .resource in (omega arith, refl, tt);
   }
 
-module _ (ops : ℕ) (few : ops ≤ 9999) where
+module _ (ops : ℕ) (few : ops ≤ fourDigits) where
   edge-forth : (vs : List ℤ) → length vs ≡ 4 → Writable 2 0 vs → edgeKind ops .values (edgeKind ops .make vs) ≡ vs
   edge-forth [] e w = absurd (omega arith)
   edge-forth (a ∷ []) e w = absurd (omega arith)

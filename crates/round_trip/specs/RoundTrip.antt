@@ -1,5 +1,5 @@
 -- A byte string is accepted exactly when it is the text of a sheet in range. Writing what was read yields its own bytes, and a written sheet is read
--- as itself, with 0 past the counts. Every text fits 4,096 bytes.
+-- as itself, with 0 past the counts. Every text fits the bytes of a sheet.
 -- Assumes nothing.
 use mathlib.Core.Path.{_≡_, refl, sym, ap, subst, _∙_}
 use mathlib.Core.List.{List, [], _∷_, _++_, map, append-assoc, append-nil}
@@ -10,23 +10,24 @@ use lib.IntN.{pos}
 use lib.ListN.{length, take, getD, replicate, length-append, length-replicate, List·getD-append}
 use lib.Seq.{take-append-seam, length-take-le}
 use borrow.Author.Tests.{ltb-true, ltb-false}
-use Rattle.text.specs.Text.{lineText}
+use Rattle.sizes.specs.Sizes.{mostTypes, mostOperations, mostEdges}
+use Rattle.text.specs.Lines.{Line, linesText, countLine}
+use Rattle.text.specs.Filling.{lines-append}
 use Rattle.text.specs.Keys as key
 use Rattle.dependence.specs.declared.Edge.{Edge}
 use Rattle.dependence.specs.Graph.{noEdge}
-use Rattle.scan.specs.Bytes.{by-test}
+use Rattle.text.specs.Decimal.{by-test}
 use Rattle.sheet.specs.declared.Sheet.{Sheet}
 use Rattle.sheet.specs.declared.Operation.{Operation}
 use Rattle.sheet.specs.declared.ResourceType.{ResourceType}
 use Rattle.sheet.specs.Facts.{most}
 use Rattle.sheet.specs.Ranges as range
 use Rattle.sheet.specs.Sheet.{noType, noOperation, TypeInRange, OpInRange, EdgeInRange, InRange}
-use Rattle.sheet.specs.Text.{Line, linesText, countLine, typeLine, opLine, edgeLine, sheetLines, sheetText}
-use Rattle.sheet.specs.TextLaws.{lines-append}
+use Rattle.sheet.specs.Text.{typeLine, opLine, edgeLine, sheetLines, sheetText}
 use Rattle.reader.specs.declared.ReadAnswer.{ReadAnswer}
 use Rattle.reader.specs.Found.{Found, found, refused, Kind, lineFrom, sectionFrom, padded}
 use Rattle.reader.specs.Kinds.{horizonKind, capKind, typesKind, opsKind, edgesKind, typeKind, opKind, edgeKind}
-use Rattle.reader.specs.Read.{sheetOf, refusal, accepted, readOf}
+use Rattle.reader.specs.Read.{longestSheet, sheetOf, refusal, accepted, readOf}
 use Rattle.sheet.specs.AnswerLaws.{number-judged, type-judged, op-judged, edge-judged}
 use Rattle.reader.specs.Steps.{line-inside}
 use Rattle.reader.specs.Whole.{too-long, stops-horizon, stops-cap, stops-types, stops-ops, stops-edges, whole, something-more}
@@ -73,13 +74,13 @@ record Good (horizon cap r : ℕ) (types : List ResourceType) (n : ℕ) (ops : L
   edges-count : length edges ≡ m
   each-edge : AllInside (edgeKind n) edges
 
-types-few : (r : ℕ) → typesKind .answer r ≡ 0 → r ≤ 8
+types-few : (r : ℕ) → typesKind .answer r ≡ 0 → r ≤ mostTypes
 types-few r e = most (number-judged range.types r .accepted e)
 
-ops-few : (n : ℕ) → opsKind .answer n ≡ 0 → n ≤ 24
+ops-few : (n : ℕ) → opsKind .answer n ≡ 0 → n ≤ mostOperations
 ops-few n e = most (number-judged range.operations n .accepted e)
 
-edges-few : (m : ℕ) → edgesKind .answer m ≡ 0 → m ≤ 96
+edges-few : (m : ℕ) → edgesKind .answer m ≡ 0 → m ≤ mostEdges
 edges-few m e = most (number-judged range.edges m .accepted e)
 
 ops-lawful : (r : ℕ) → typesKind .answer r ≡ 0 → Lawful (opKind r)
@@ -91,7 +92,7 @@ edges-lawful n e = edge-lawful n (omega (arith, ops-few n e))
 -- ---- the text is short, and is read
 
 module _ {horizon cap r : ℕ} {types : List ResourceType} {n : ℕ} {ops : List Operation} {m : ℕ} {edges : List Edge} (g : Good horizon cap r types n ops m edges) where
-  lists-short : length (listsText horizon cap r types n ops m edges) ≤ 4096
+  lists-short : length (listsText horizon cap r types n ops m edges) ≤ longestSheet
   lists-short =
       let a₁ : length (entryText horizonKind horizon) ≤ 14 = entry-length horizonKind (number-lawful key.horizonKey range.horizon) horizon (g .horizon-in) in
       let a₂ : length (entryText capKind cap) ≤ 10 = entry-length capKind (number-lawful key.capKey range.cap) cap (g .cap-in) in
@@ -152,8 +153,8 @@ module _ (s : Sheet) (long : Arrays s) (ok : InRange s) where
       }
 
   -- every text fits
-  pub text-short : length (sheetText s) ≤ 4096
-  text-short = subst (λ (l : List ℕ). length l ≤ 4096) (sym (sheet-lists s)) (lists-short good)
+  pub text-short : length (sheetText s) ≤ longestSheet
+  text-short = subst (λ (l : List ℕ). length l ≤ longestSheet) (sym (sheet-lists s)) (lists-short good)
 
   -- whatever sheet in range is written reads as itself, with 0 past its counts
   pub accepts : readOf (sheetText s) ≡ accepted (trimmed s)
@@ -170,9 +171,9 @@ padded-length size d es h =
 module _ (horizon cap : ℕ) (types : List ResourceType) (ops : List Operation) (edges : List Edge) (g : Good horizon cap (length types) types (length ops) ops (length edges) edges) where
   made-arrays : Arrays (sheetOf horizon cap types ops edges)
   made-arrays = record {
-    types = padded-length 8 noType types (types-few (length types) (g .types-in));
-    ops = padded-length 24 noOperation ops (ops-few (length ops) (g .ops-in));
-    edges = padded-length 96 noEdge edges (edges-few (length edges) (g .edges-in));
+    types = padded-length mostTypes noType types (types-few (length types) (g .types-in));
+    ops = padded-length mostOperations noOperation ops (ops-few (length ops) (g .ops-in));
+    edges = padded-length mostEdges noEdge edges (edges-few (length edges) (g .edges-in));
   }
 
   made-in-range : InRange (sheetOf horizon cap types ops edges)
@@ -184,29 +185,29 @@ module _ (horizon cap : ℕ) (types : List ResourceType) (ops : List Operation) 
       ops = number-judged range.operations (length ops) .accepted (g .ops-in);
       edges = number-judged range.edges (length edges) .accepted (g .edges-in);
     };
-    eachType = λ i h. subst TypeInRange (sym (List·getD-append types (replicate (8 - length types) noType) noType i h))
+    eachType = λ i h. subst TypeInRange (sym (List·getD-append types (replicate (mostTypes - length types) noType) noType i h))
         (type-judged (getD types i noType) .accepted (all-at (λ a. typeKind .answer a ≡ 0) noType types (g .each-type) i h));
-    eachOp = λ i h. subst (OpInRange (length types)) (sym (List·getD-append ops (replicate (24 - length ops) noOperation) noOperation i h))
+    eachOp = λ i h. subst (OpInRange (length types)) (sym (List·getD-append ops (replicate (mostOperations - length ops) noOperation) noOperation i h))
         (op-judged (length types) (getD ops i noOperation) .accepted (all-at (λ a. opKind (length types) .answer a ≡ 0) noOperation ops (g .each-op) i h));
-    eachEdge = λ i h. subst (EdgeInRange (length ops)) (sym (List·getD-append edges (replicate (96 - length edges) noEdge) noEdge i h))
+    eachEdge = λ i h. subst (EdgeInRange (length ops)) (sym (List·getD-append edges (replicate (mostEdges - length edges) noEdge) noEdge i h))
         (edge-judged (length ops) (getD edges i noEdge) .accepted (all-at (λ a. edgeKind (length ops) .answer a ≡ 0) noEdge edges (g .each-edge) i h));
   }
 
   made-text : sheetText (sheetOf horizon cap types ops edges) ≡ listsText horizon cap (length types) types (length ops) ops (length edges) edges
   made-text = sheet-lists (sheetOf horizon cap types ops edges) ∙ (λ i. listsText horizon cap
-      (length types) (take-append-seam types (replicate (8 - length types) noType) i)
-      (length ops) (take-append-seam ops (replicate (24 - length ops) noOperation) i)
-      (length edges) (take-append-seam edges (replicate (96 - length edges) noEdge) i))
+      (length types) (take-append-seam types (replicate (mostTypes - length types) noType) i)
+      (length ops) (take-append-seam ops (replicate (mostOperations - length ops) noOperation) i)
+      (length edges) (take-append-seam edges (replicate (mostEdges - length edges) noEdge) i))
 
   made-trimmed : trimmed (sheetOf horizon cap types ops edges) ≡ sheetOf horizon cap types ops edges
   made-trimmed = λ i. sheetOf horizon cap
-      (take-append-seam types (replicate (8 - length types) noType) i)
-      (take-append-seam ops (replicate (24 - length ops) noOperation) i)
-      (take-append-seam edges (replicate (96 - length edges) noEdge) i)
+      (take-append-seam types (replicate (mostTypes - length types) noType) i)
+      (take-append-seam ops (replicate (mostOperations - length ops) noOperation) i)
+      (take-append-seam edges (replicate (mostEdges - length edges) noEdge) i)
 
 -- ---- what is accepted
 
-module _ (bs : List ℕ) (z : readOf bs .answer ≡ 0) (h : length bs ≤ 4096) where
+module _ (bs : List ℕ) (z : readOf bs .answer ≡ 0) (h : length bs ≤ longestSheet) where
   not-refused : (n : ℕ) → readOf bs ≡ refusal n → 0 < n → ⊥
   not-refused n e l = let q : n ≡ 0 = sym (ap (λ (r : ReadAnswer). r .answer) e) ∙ z in omega arith
 
@@ -273,12 +274,12 @@ module _ (bs : List ℕ) (z : readOf bs .answer ≡ 0) (h : length bs ≤ 4096) 
 -- what is accepted is the text of a sheet in range
 pub only-text : (bs : List ℕ) → readOf bs .answer ≡ 0 → Accepted bs
 only-text bs z =
-    by-test (ltb 4096 (length bs))
+    by-test (ltb longestSheet (length bs))
     (λ t.
-    let e = too-long bs (ltb-true 4096 (length bs) t) in
+    let e = too-long bs (ltb-true longestSheet (length bs) t) in
     let q : 1 ≡ 0 = sym (ap (λ (r : ReadAnswer). r .answer) e) ∙ z in
     absurd (omega arith))
-    (λ t. at-horizon bs z (ltb-false 4096 (length bs) t) (lineFrom horizonKind bs) refl)
+    (λ t. at-horizon bs z (ltb-false longestSheet (length bs) t) (lineFrom horizonKind bs) refl)
 
 -- writing what was read yields its own bytes
 pub writes-back : (bs : List ℕ) → readOf bs .answer ≡ 0 → sheetText (readOf bs .sheet) ≡ bs

@@ -11,6 +11,7 @@ use lib.Seq.{drop-cons}
 use borrow.Author.Tests.{eq-eqb, ne-eqb, lt-ltb, le-ltb}
 use types.Run.{OneOf}
 use denote.Enum.Declared.{tagOf}
+use Rattle.text.specs.Sizes.{threeDigits, fourDigits}
 use Rattle.scan.specs.Number.{Num, value, malformed, classOf, digitOr, moreDigits, number, seen, within}
 use Rattle.scan.specs.declared.Class.{Class}
 use Rattle.scan.specs.declared.Class.the-variants.{Minus, Digit, Comma, LineFeed, Other}
@@ -38,13 +39,13 @@ module _ (s : List ℕ) (i : ℕ) (h : i < length s) where
     unfolding moreDigits
     digit-zero z = rw (front, ← e, g, eq-eqb v 0 z)
 
-    pub digit-full : 999 < v → moreDigits v (drop i s) ≡ malformed
+    pub digit-full : threeDigits < v → moreDigits v (drop i s) ≡ malformed
     unfolding moreDigits
-    digit-full z = rw (front, ← e, g, ne-eqb v 0 (λ n. omega arith), lt-ltb 999 v z)
+    digit-full z = rw (front, ← e, g, ne-eqb v 0 (λ n. omega arith), lt-ltb threeDigits v z)
 
-    pub digit-more : (v ≡ 0 → ⊥) → v ≤ 999 → moreDigits v (drop i s) ≡ moreDigits (v * 10 + d) (drop (i + 1) s)
+    pub digit-more : (v ≡ 0 → ⊥) → v ≤ threeDigits → moreDigits v (drop i s) ≡ moreDigits (v * 10 + d) (drop (i + 1) s)
     unfolding moreDigits
-    digit-more n z = rw (front, ← e, g, ne-eqb v 0 n, le-ltb 999 v z)
+    digit-more n z = rw (front, ← e, g, ne-eqb v 0 n, le-ltb threeDigits v z)
 
   pub digit-stop : (v : ℕ) (k : Class) → k ≡ classOf (getD s i 0) → OneOf (0 ∷ 2 ∷ 3 ∷ 4 ∷ []) (tagOf T.the-type k) → moreDigits v (drop i s) ≡ value v (drop i s)
   unfolding moreDigits
@@ -78,6 +79,6 @@ pub seen-malformed : (s : List ℕ) {n : Num} {r : Number} → seen s r ≡ n �
 unfolding seen
 seen-malformed s e g = sym e ∙ ap (seen s) g
 
-pub within-value : (s : List ℕ) {r : Number} {v p : ℕ} → within s r → r ≡ Value v p → (p ≤ length s) × (v ≤ 9999)
+pub within-value : (s : List ℕ) {r : Number} {v p : ℕ} → within s r → r ≡ Value v p → (p ≤ length s) × (v ≤ fourDigits)
 unfolding within
 within-value s w g = subst (within s) g w

@@ -14,11 +14,12 @@ use lib.Seq.{take-suc-set, length-take-le}
 use borrow.Author.Tests.{eq-eqb, ne-eqb, le-leb, lt-leb, lt-ltb}
 use types.Run.{OneOf}
 use denote.Enum.Declared.{tagOf}
+use Rattle.text.specs.Sizes.{fourDigits}
 use Rattle.laws.specs.Store.{store}
 use Rattle.laws.specs.Z.{true-false}
 use Rattle.text.specs.Text.{endOf}
 use Rattle.scan.specs.Number.{Signed, int, none, classOf, number, signedNumber, wholeOf}
-use Rattle.scan.specs.Line.{Rest, after, missing, stripped, fieldOf, Fields, fields, bad, fieldsFrom, lineOf, dueLine, seenPlace, withinPlace, zeros, LineFits}
+use Rattle.scan.specs.Line.{mostNumbers, Rest, after, missing, stripped, fieldOf, Fields, fields, bad, fieldsFrom, lineOf, dueLine, seenPlace, withinPlace, zeros, LineFits}
 use Rattle.scan.specs.declared.Line.{Line}
 use Rattle.scan.specs.declared.Place.{Place}
 use Rattle.scan.specs.declared.Place.the-variants.{After, Missing}
@@ -129,8 +130,8 @@ numbers-end count minus i vs bs h =
 -- ---- the array: values of at most four digits, and 0 from the place i on
 
 pub record Filled (i : ℕ) (vs : List ℤ) : Type 0 where
-  pub whole : length vs ≡ 8
-  pub small : (k : ℕ) → natAbs (getD vs k (pos 0)) ≤ 9999
+  pub whole : length vs ≡ mostNumbers
+  pub small : (k : ℕ) → natAbs (getD vs k (pos 0)) ≤ fourDigits
   pub past : (k : ℕ) → i ≤ k → getD vs k (pos 0) ≡ pos 0
 
 all-zero : (n k : ℕ) → getD (replicate n (pos 0)) k (pos 0) ≡ pos 0
@@ -139,14 +140,14 @@ all-zero (suc n) zero = refl
 all-zero (suc n) (suc k) = all-zero n k
 
 pub filled-none : Filled 0 zeros
-filled-none = record { whole = refl; small = λ k. rw (all-zero 8 k) (omega arith); past = λ k h. all-zero 8 k }
+filled-none = record { whole = refl; small = λ k. rw (all-zero mostNumbers k) (omega arith); past = λ k h. all-zero mostNumbers k }
 
-pub filled-more : (i : ℕ) (vs : List ℤ) (v : ℤ) → i < 8 → Filled i vs → natAbs v ≤ 9999 → Filled (i + 1) (set vs i v)
+pub filled-more : (i : ℕ) (vs : List ℤ) (v : ℤ) → i < mostNumbers → Filled i vs → natAbs v ≤ fourDigits → Filled (i + 1) (set vs i v)
 filled-more i vs v h f m =
     let l = f .whole in
     record {
       whole = length-set vs i v ∙ l;
-      small = λ k. store (λ j x. natAbs x ≤ 9999) vs i v (pos 0) (omega arith) m k (λ n. f .small k);
+      small = λ k. store (λ j x. natAbs x ≤ fourDigits) vs i v (pos 0) (omega arith) m k (λ n. f .small k);
       past = λ k q. store (λ j x. i + 1 ≤ j → x ≡ pos 0) vs i v (pos 0) (omega arith) (λ n. absurd (omega arith)) k (λ n r. f .past k (omega arith)) q;
     }
 
@@ -165,19 +166,19 @@ fits-none s k =
 
 -- ---- a line
 
-pub line-after : (k : List ℕ) (count minus : ℕ) (bs rest : List ℕ) → 1 ≤ count → count ≤ 8 → stripped k bs ≡ after rest → dueLine k count minus bs ≡ fieldsFrom count minus [] rest
+pub line-after : (k : List ℕ) (count minus : ℕ) (bs rest : List ℕ) → 1 ≤ count → count ≤ mostNumbers → stripped k bs ≡ after rest → dueLine k count minus bs ≡ fieldsFrom count minus [] rest
 unfolding lineOf
-line-after k count minus bs rest lo hi e = rw (le-leb 1 count lo, le-leb count 8 hi, e)
+line-after k count minus bs rest lo hi e = rw (le-leb 1 count lo, le-leb count mostNumbers hi, e)
 
-pub line-missing : (k : List ℕ) (count minus : ℕ) (bs : List ℕ) → 1 ≤ count → count ≤ 8 → stripped k bs ≡ missing → dueLine k count minus bs ≡ bad
+pub line-missing : (k : List ℕ) (count minus : ℕ) (bs : List ℕ) → 1 ≤ count → count ≤ mostNumbers → stripped k bs ≡ missing → dueLine k count minus bs ≡ bad
 unfolding lineOf
-line-missing k count minus bs lo hi e = rw (le-leb 1 count lo, le-leb count 8 hi, e)
+line-missing k count minus bs lo hi e = rw (le-leb 1 count lo, le-leb count mostNumbers hi, e)
 
 pub line-none : (k : List ℕ) (count minus : ℕ) (bs : List ℕ) → count < 1 → dueLine k count minus bs ≡ bad
 line-none k count minus bs lo = rw (lt-leb 1 count lo)
 
-pub line-long : (k : List ℕ) (count minus : ℕ) (bs : List ℕ) → 8 < count → dueLine k count minus bs ≡ bad
-line-long k count minus bs hi = rw (le-leb 1 count (omega arith), lt-leb count 8 hi)
+pub line-long : (k : List ℕ) (count minus : ℕ) (bs : List ℕ) → mostNumbers < count → dueLine k count minus bs ≡ bad
+line-long k count minus bs hi = rw (le-leb 1 count (omega arith), lt-leb count mostNumbers hi)
 
 -- no bytes are no line
 field-empty : (end : ℕ) (m : Bool) → fieldOf end m [] ≡ none
@@ -191,5 +192,5 @@ line-empty key zero minus h = absurd (omega arith)
 line-empty [] (suc k) minus h = rw (field-empty (endOf k) (eqb 0 minus))
 line-empty (c ∷ cs) (suc k) minus h = refl
 
-pub line-past : (s k : List ℕ) (at count minus : ℕ) → length s ≤ at → 1 ≤ count → count ≤ 8 → dueLine k count minus (drop at s) ≡ bad
-line-past s k at count minus h lo hi = rw (drop-of-length-le s h, le-leb 1 count lo, le-leb count 8 hi) (line-empty k count minus lo)
+pub line-past : (s k : List ℕ) (at count minus : ℕ) → length s ≤ at → 1 ≤ count → count ≤ mostNumbers → dueLine k count minus (drop at s) ≡ bad
+line-past s k at count minus h lo hi = rw (drop-of-length-le s h, le-leb 1 count lo, le-leb count mostNumbers hi) (line-empty k count minus lo)

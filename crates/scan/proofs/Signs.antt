@@ -14,6 +14,7 @@ use mir.Facts.{toZ-ofZ}
 use borrow.Author.Tests.{eq-eqb, ne-eqb}
 use types.Run.{OneOf}
 use denote.Enum.Declared.{tagOf}
+use Rattle.text.specs.Sizes.{fourDigits}
 use Rattle.laws.specs.Z.{true-false, four-digits}
 use Rattle.scan.specs.Number.{value, malformed, classOf, number, Signed, int, none, signedOf, signedNumber, wholeOf, seenWhole, withinWhole}
 use Rattle.scan.specs.declared.Whole.{Whole}
@@ -26,18 +27,18 @@ use Rattle.scan.proofs.Digits.{front}
 pub minus : (z : ℤ) → pos 0 -ℤ z ≡ negℤ z
 minus z = +ℤ-idl (negℤ z)
 
-neg-fits : (z : ℤ) → natAbs z ≤ 9999 → SFits w32 (negℤ z)
+neg-fits : (z : ℤ) → natAbs z ≤ fourDigits → SFits w32 (negℤ z)
 neg-fits (pos zero) h = record { sfits = omega arith }
 neg-fits (pos (suc n)) h = record { sfits = omega arith }
 neg-fits (negsuc n) h = record { sfits = omega arith }
 
-pub sub-fits : (z : ℤ) → natAbs z ≤ 9999 → SFits w32 (pos 0 -ℤ z)
+pub sub-fits : (z : ℤ) → natAbs z ≤ fourDigits → SFits w32 (pos 0 -ℤ z)
 sub-fits z h = rw (minus z) (neg-fits z h)
 
-pub neg-bits : (z : ℤ) → natAbs z ≤ 9999 → toZ w32 (ofZ w32 (pos 0 -ℤ z)) ≡ negℤ z
+pub neg-bits : (z : ℤ) → natAbs z ≤ fourDigits → toZ w32 (ofZ w32 (pos 0 -ℤ z)) ≡ negℤ z
 neg-bits z h = ap (λ (x : ℤ). toZ w32 (ofZ w32 x)) (minus z) ∙ toZ-ofZ (neg-fits z h)
 
-pub small-bits : (z : ℤ) → natAbs z ≤ 9999 → toZ w32 (ofZ w32 z) ≡ z
+pub small-bits : (z : ℤ) → natAbs z ≤ fourDigits → toZ w32 (ofZ w32 z) ≡ z
 small-bits z h = toZ-ofZ (four-digits z h)
 
 pub mag-signed : (g : Bool) (n : ℕ) → natAbs (signedOf g n) ≡ n
@@ -104,6 +105,6 @@ pub seen-none : (s : List ℕ) {n : Signed} {r : Whole} → seenWhole s r ≡ n 
 unfolding seenWhole
 seen-none s e g = sym e ∙ ap (seenWhole s) g
 
-pub within-int : (s : List ℕ) {r : Whole} {v : ℤ} {p : ℕ} → withinWhole s r → r ≡ Int v p → (p ≤ length s) × (natAbs v ≤ 9999)
+pub within-int : (s : List ℕ) {r : Whole} {v : ℤ} {p : ℕ} → withinWhole s r → r ≡ Int v p → (p ≤ length s) × (natAbs v ≤ fourDigits)
 unfolding withinWhole
 within-int s w g = subst (withinWhole s) g w

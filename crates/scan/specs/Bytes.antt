@@ -1,19 +1,14 @@
 -- Which byte is a minus, a digit, a comma or a line feed, both ways round.
 -- Assumes nothing.
-use mathlib.Core.Path.{_≡_, refl, ap, subst, _∙_}
-use mathlib.Core.Bool.{Bool, true, false}
+use mathlib.Core.Path.{_≡_, ap, subst, _∙_}
 use Prim.Native.Nat.{ℕ, _+_, _-_, _≤_, _<_}
 use native.Mathlib.Omega.{arith}
 use lib.Dec.{eqb, leb}
 use borrow.Author.Tests.{ne-eqb, le-leb, lt-leb, eqb-true, leb-true}
+use Rattle.text.specs.Decimal.{by-test}
 use Rattle.scan.specs.Number.{classOf}
 use Rattle.scan.specs.declared.Class.{Class}
 use Rattle.scan.specs.declared.Class.the-variants.{Minus, Digit, Comma, LineFeed, Other}
-
--- a test's two outcomes, each with its equation
-pub by-test {ℓ} : {P : Type ℓ} (t : Bool) → (t ≡ true → P) → (t ≡ false → P) → P
-by-test true f g = f refl
-by-test false f g = g refl
 
 pub digit-class : (b : ℕ) → 48 ≤ b → b ≤ 57 → classOf b ≡ Digit (b - 48)
 unfolding classOf

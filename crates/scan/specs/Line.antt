@@ -6,6 +6,7 @@ use mathlib.Core.Bool.{Bool, true, false, cond}
 use lib.Dec.{eqb, leb}
 use lib.IntN.{ℤ, pos, natAbs}
 use lib.ListN.{length, drop, take, getD, replicate}
+use Rattle.text.specs.Sizes.{fourDigits}
 use Rattle.text.specs.Text.{endOf}
 use Rattle.scan.specs.Number.{Signed, int, none, onInt, wholeOf}
 use Rattle.scan.specs.declared.Line.{Line}
@@ -61,11 +62,19 @@ fieldsFrom (suc k) minus vs bs =
 unfoldable pub lineOf : List ℕ → ℕ → ℕ → List ℕ → Fields
 lineOf key k minus bs = onRest (stripped key bs) (λ rest. fieldsFrom k minus [] rest) bad
 
--- a line has one to eight numbers
-abbrev pub lineCount : ℕ → Bool
-lineCount k = cond (leb 1 k) (leb k 8) false
+-- numbers in a line
+abbrev pub mostNumbers : ℕ
+mostNumbers = 8
 
--- the same, where k is a line's count; at a numeral of 1 to 8 this is lineOf
+-- the place of no number: none may carry a minus
+abbrev pub noMinus : ℕ
+noMinus = mostNumbers
+
+-- a line has a number, and not more than the most
+abbrev pub lineCount : ℕ → Bool
+lineCount k = cond (leb 1 k) (leb k mostNumbers) false
+
+-- the same, where k is a line's count; at a numeral that it lets through this is lineOf
 abbrev pub dueLine : List ℕ → ℕ → ℕ → List ℕ → Fields
 dueLine key k minus bs = cond (lineCount k) (lineOf key k minus bs) bad
 
@@ -89,14 +98,14 @@ seenLine s k l = cond (l .ok) (fields (take k (l .values)) (drop (l .next) s)) b
 abbrev pub valueAt : Line → ℕ → ℤ
 valueAt l i = getD (l .values) i (pos 0)
 
--- 8 numbers, all 0
+-- the most numbers, all 0
 abbrev pub zeros : List ℤ
-zeros = replicate 8 (pos 0)
+zeros = replicate mostNumbers (pos 0)
 
 -- the place after the line lies within s, each value has at most four digits, and what is no part of the line is 0
 pub record LineFits (s : List ℕ) (k : ℕ) (l : Line) : Type 0 where
-  pub whole : length (l .values) ≡ 8
+  pub whole : length (l .values) ≡ mostNumbers
   pub next : l .next ≤ length s
-  pub small : (i : ℕ) → natAbs (valueAt l i) ≤ 9999
+  pub small : (i : ℕ) → natAbs (valueAt l i) ≤ fourDigits
   pub past : (i : ℕ) → k ≤ i → valueAt l i ≡ pos 0
   pub refused : l .ok ≡ false → (l .values ≡ zeros) × (l .next ≡ 0)

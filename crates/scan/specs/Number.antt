@@ -5,6 +5,7 @@ use mathlib.Core.Bool.{Bool, true, false, cond}
 use lib.Dec.{leb, eqb, ltb}
 use lib.IntN.{ℤ, pos, negℤ, natAbs}
 use lib.ListN.{length, drop}
+use Rattle.text.specs.Sizes.{threeDigits, fourDigits}
 use Rattle.scan.specs.declared.Class.{Class}
 use Rattle.scan.specs.declared.Class.the-variants.{Minus, Digit, Comma, LineFeed, Other}
 use Rattle.scan.specs.declared.Number.{Number}
@@ -44,7 +45,7 @@ unfoldable pub moreDigits : ℕ → List ℕ → Num
 moreDigits v [] = value v []
 moreDigits v (b ∷ bs) =
     digitOr (classOf b)
-    (λ d. cond (eqb v 0) malformed (cond (ltb 999 v) malformed (moreDigits (v * 10 + d) bs)))
+    (λ d. cond (eqb v 0) malformed (cond (ltb threeDigits v) malformed (moreDigits (v * 10 + d) bs)))
     (value v (b ∷ bs))
 
 -- the number at the front of the bytes: it has at least one digit
@@ -89,7 +90,7 @@ seen s Malformed = malformed
 
 -- the place after a number lies within s, and the number has at most four digits
 unfoldable pub within : List ℕ → Number → Type 0
-within s (Value v p) = (p ≤ length s) × (v ≤ 9999)
+within s (Value v p) = (p ≤ length s) × (v ≤ fourDigits)
 within s Malformed = Unit {0}
 
 -- a whole number and the bytes from the place after it on, or that there is none
@@ -99,5 +100,5 @@ seenWhole s None = none
 
 -- the place after a whole number lies within s, and the number has at most four digits
 unfoldable pub withinWhole : List ℕ → Whole → Type 0
-withinWhole s (Int v p) = (p ≤ length s) × (natAbs v ≤ 9999)
+withinWhole s (Int v p) = (p ≤ length s) × (natAbs v ≤ fourDigits)
 withinWhole s None = Unit {0}

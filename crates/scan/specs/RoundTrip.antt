@@ -9,11 +9,12 @@ use lib.Dec.{eqb}
 use lib.IntN.{ℤ, pos, negsuc, negℤ, natAbs}
 use lib.ListN.{length, length-append}
 use borrow.Author.Tests.{eq-eqb, ne-eqb, eqb-true, eqb-false}
+use Rattle.text.specs.Sizes.{fourDigits}
 use Rattle.laws.specs.Z.{true-false}
 use Rattle.text.specs.Text.{digits, signedText, endOf, joined, lineText}
 use Rattle.scan.specs.Number.{Num, value, malformed, classOf, number, Signed, int, none, signedOf, signedNumber, wholeOf}
 use Rattle.scan.specs.Line.{Rest, after, missing, stripped, fieldOf, Fields, fields, bad, fieldsFrom, lineOf}
-use Rattle.scan.specs.Bytes.{by-test}
+use Rattle.text.specs.Decimal.{by-test}
 use Rattle.scan.specs.Digits.{Ends, no-value, reads-digits, canonical}
 use Rattle.scan.specs.declared.Class.{Class}
 use Rattle.scan.specs.declared.Class.the-variants.{Digit}
@@ -33,7 +34,7 @@ MayStand false v = isNegative v ≡ false
 -- the numbers from the place i on: four digits at most, and negative only at the place minus
 abbrev pub Writable : ℕ → ℕ → List ℤ → Type 0
 Writable minus i [] = Unit {0}
-Writable minus i (v ∷ vs) = (natAbs v ≤ 9999) × MayStand (eqb i minus) v × Writable minus (suc i) vs
+Writable minus i (v ∷ vs) = (natAbs v ≤ fourDigits) × MayStand (eqb i minus) v × Writable minus (suc i) vs
 
 -- ---- a key
 
@@ -77,7 +78,7 @@ minus-int : (n : ℕ) (bs rest : List ℕ) → number bs ≡ value (suc n) rest 
 unfolding wholeOf signedNumber
 minus-int n bs rest e = rw (e, ne-eqb (suc n) 0 (λ z. omega arith))
 
-reads-whole : (m : Bool) (v : ℤ) (rest : List ℕ) → natAbs v ≤ 9999 → MayStand m v → Ends rest → wholeOf m (signedText v ++ rest) ≡ int v rest
+reads-whole : (m : Bool) (v : ℤ) (rest : List ℕ) → natAbs v ≤ fourDigits → MayStand m v → Ends rest → wholeOf m (signedText v ++ rest) ≡ int v rest
 unfolding wholeOf signedText
 reads-whole false (pos n) rest h s e = plain-int n (digits n ++ rest) rest (reads-digits n rest h e)
 reads-whole false (negsuc n) rest h s e = true-false s
@@ -89,7 +90,7 @@ reads-whole true (negsuc n) rest h s e = minus-int n (digits (suc n) ++ rest) re
 -- what a number read says of the bytes that it was read from
 record Spelled (m : Bool) (bs : List ℕ) (v : ℤ) (rest : List ℕ) : Type 0 where
   text : bs ≡ signedText v ++ rest
-  small : natAbs v ≤ 9999
+  small : natAbs v ≤ fourDigits
   sign : MayStand m v
 
 plain-at : (bs : List ℕ) (n : Num) (v : ℤ) (rest : List ℕ) → number bs ≡ n → signedNumber false bs ≡ int v rest → Spelled false bs v rest
@@ -102,7 +103,7 @@ plain-at bs (value n left) v rest e f =
     let l : left ≡ rest = cc in
     record {
       text = c .text ∙ ap (λ (r : List ℕ). digits n ++ r) l ∙ ap (λ (z : ℤ). signedText z ++ rest) a;
-      small = subst (λ (z : ℤ). natAbs z ≤ 9999) a (c .small);
+      small = subst (λ (z : ℤ). natAbs z ≤ fourDigits) a (c .small);
       sign = subst (λ (z : ℤ). isNegative z ≡ false) a refl;
     }
 
@@ -129,7 +130,7 @@ minus-at bs (value n left) v rest e f =
     record {
       text = ap (λ (r : List ℕ). 45 ∷ r) (c .text ∙ ap (λ (r : List ℕ). digits n ++ r) l)
           ∙ ap (λ (r : List ℕ). r ++ rest) (sym (minus-text n (eqb-false n 0 t))) ∙ ap (λ (z : ℤ). signedText z ++ rest) a;
-      small = subst (λ (z : ℤ). natAbs z ≤ 9999) a (rw (minus-small n) (c .small));
+      small = subst (λ (z : ℤ). natAbs z ≤ fourDigits) a (rw (minus-small n) (c .small));
       sign = tt;
     })
 
@@ -155,7 +156,7 @@ unfolding classOf
 end-no-digit zero d e = let z : _≡_ {A = ℕ} 0 1 = cc in omega arith
 end-no-digit (suc k) d e = let z : _≡_ {A = ℕ} 0 1 = cc in omega arith
 
-reads-field : (k : ℕ) (m : Bool) (v : ℤ) (rest : List ℕ) → natAbs v ≤ 9999 → MayStand m v → fieldOf (endOf k) m (signedText v ++ (endOf k ∷ rest)) ≡ int v rest
+reads-field : (k : ℕ) (m : Bool) (v : ℤ) (rest : List ℕ) → natAbs v ≤ fourDigits → MayStand m v → fieldOf (endOf k) m (signedText v ++ (endOf k ∷ rest)) ≡ int v rest
 unfolding fieldOf
 reads-field k m v rest h s = rw (reads-whole m v (endOf k ∷ rest) h s (end-no-digit k), eq-eqb (endOf k) (endOf k) refl)
 

@@ -5,11 +5,18 @@ ghost use Prim.Native.Nat.{_+_, _-_, _≤_, _<_};
 ghost use lib.Dec.{eqb};
 ghost use lib.ListN.{length, drop};
 ghost use Rattle.scan.specs.Number.{classOf, number, moreDigits, seen, within, signedOf, signedNumber, wholeOf, seenWhole, withinWhole};
-ghost use Rattle.scan.specs.Line.{stripped, seenPlace, withinPlace, fieldOf, fieldsFrom, dueLine, seenLine, LineFits};
+ghost use Rattle.scan.specs.Line.{mostNumbers, stripped, seenPlace, withinPlace, fieldOf, fieldsFrom, dueLine, seenLine, LineFits};
+ghost use Rattle.text.specs.Sizes.{fourDigits};
 ghost use Rattle.text.specs.Text.{endOf};
 
 // The most numbers that a line may have.
 const MOST_NUMBERS: usize = 8;
+
+// The place of no number, for a line of which none may carry a minus.
+pub const NO_MINUS: usize = MOST_NUMBERS;
+
+// The greatest number of three digits.
+const THREE_DIGITS: u32 = 999;
 
 // What a byte after the equals sign is.
 pub enum Class {
@@ -53,7 +60,7 @@ fn more_digits(s: &[u8], at: usize, first: u32) -> Number
                 if v == 0 {
                     return Number::Malformed;
                 }
-                if 999 < v {
+                if THREE_DIGITS < v {
                     return Number::Malformed;
                 }
                 v = v * 10 + (d as u32);
@@ -84,7 +91,7 @@ fn read_number(s: &[u8], at: usize) -> Number
 
 // n, or -n.
 fn with_sign(negative: bool, n: u32) -> i32
-    requires { ⌜ n ≤ 9999 ⌝ }
+    requires { ⌜ n ≤ fourDigits ⌝ }
     ensures { λ r. ⌜ r ≡ signedOf negative n ⌝ }
 {
     let v = n as i32;
@@ -194,17 +201,17 @@ fn after_key(s: &[u8], at: usize, key: &[u8]) -> Place
 // A line's numbers and the place after its line feed. Values past the line's numbers are 0; of a line that is not ok everything is 0.
 pub struct Line {
     pub ok: bool,
-    pub values: [i32; 8],
+    pub values: [i32; MOST_NUMBERS],
     pub next: usize,
 }
 
 // The count numbers of a line, from `start`; the one at `minus` may carry a minus.
 fn read_numbers(s: &[u8], start: usize, count: usize, minus: usize) -> Line
-    requires { ⌜ (start ≤ length (now s)) × (count ≤ 8) ⌝ }
+    requires { ⌜ (start ≤ length (now s)) × (count ≤ mostNumbers) ⌝ }
     ensures { λ r. ⌜ seenLine (now (s .entry)) count r ≡ fieldsFrom count minus [] (drop start (now (s .entry))) ⌝ }
     ensures { λ r. ⌜ LineFits (now (s .entry)) count r ⌝ }
 {
-    let mut values = [0i32; 8];
+    let mut values = [0i32; MOST_NUMBERS];
     let mut p = start;
     let mut i = 0;
     while i < count {
@@ -216,7 +223,7 @@ fn read_numbers(s: &[u8], start: usize, count: usize, minus: usize) -> Line
             Whole::None => {
                 return Line {
                     ok: false,
-                    values: [0; 8],
+                    values: [0; MOST_NUMBERS],
                     next: 0,
                 };
             }
@@ -231,14 +238,14 @@ fn read_numbers(s: &[u8], start: usize, count: usize, minus: usize) -> Line
 }
 
 // The line at `at` with this key (its equals sign included) and count numbers, of which the one at `minus` may carry a minus.
-// A line has one to eight numbers: with any other count, as with any malformed line, the answer is not ok.
+// A line has one number to the most: with any other count, as with any malformed line, the answer is not ok.
 pub fn read_line(s: &[u8], at: usize, key: &[u8], count: usize, minus: usize) -> Line
     ensures { λ r. ⌜ seenLine (now (s .entry)) count r ≡ dueLine (now (key .entry)) count minus (drop at (now (s .entry))) ⌝ }
     ensures { λ r. ⌜ LineFits (now (s .entry)) count r ⌝ }
 {
     let none = Line {
         ok: false,
-        values: [0; 8],
+        values: [0; MOST_NUMBERS],
         next: 0,
     };
     if count < 1 {

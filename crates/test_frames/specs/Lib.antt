@@ -1,2 +1,4 @@
+-- ---- definitions to believe
 pub mod Piece
+-- ---- laws
 pub mod PieceLaws

@@ -7,7 +7,7 @@ use lib.Dec.{leb}
 use lib.IntN.{ℤ, pos, negsuc}
 use lib.ListN.{length, take, drop, getD}
 use lib.Seq.{slice}
-use Rattle.scan.specs.Line.{dueLine, onFields}
+use Rattle.scan.specs.Line.{noMinus, dueLine, onFields}
 use Rattle.test_frames.specs.declared.Frame.{Frame}
 
 -- a piece and what follows it, or no piece
@@ -26,7 +26,7 @@ sized (negsuc n) bs = none
 
 -- the piece at the front of the bytes; the number of its line carries no minus
 unfoldable pub pieceOf : List ℕ → Piece
-pieceOf bs = onFields (dueLine key 1 8 bs) (λ vs rest. sized (getD vs 0 (pos 0)) rest) none
+pieceOf bs = onFields (dueLine key 1 noMinus bs) (λ vs rest. sized (getD vs 0 (pos 0)) rest) none
 
 -- what a frame shows of the bytes s
 unfoldable pub seenPiece : List ℕ → Frame → Piece

@@ -11,7 +11,7 @@ use lib.ListN.{length, take, drop, getD, length-drop}
 use lib.Seq.{slice, getD-take, drop-drop, take-nil}
 use borrow.Author.Tests.{le-leb, lt-leb}
 use Rattle.laws.specs.Z.{zed}
-use Rattle.scan.specs.Line.{Fields, fields, bad, dueLine, onFields, seenLine, valueAt}
+use Rattle.scan.specs.Line.{noMinus, Fields, fields, bad, dueLine, onFields, seenLine, valueAt}
 use Rattle.scan.specs.declared.Line.{Line}
 use Rattle.test_frames.specs.Piece.{Piece, piece, none, key, sized, pieceOf, FrameFits}
 
@@ -19,7 +19,7 @@ use Rattle.test_frames.specs.Piece.{Piece, piece, none, key, sized, piec
 pub nowhere : (s : List ℕ) → FrameFits s (record { ok = false; start = 0; end = 0 })
 nowhere s = record { start = omega arith; end = omega arith; refused = λ _. (refl, refl) }
 
-module _ (s : List ℕ) (at : ℕ) (l : Line) (seen : seenLine s 1 l ≡ dueLine key 1 8 (drop at s)) where
+module _ (s : List ℕ) (at : ℕ) (l : Line) (seen : seenLine s 1 l ≡ dueLine key 1 noMinus (drop at s)) where
   -- there is no such line
   pub no-line : l .ok ≡ false → none ≡ pieceOf (drop at s)
   unfolding pieceOf seenLine

@@ -2,10 +2,8 @@
 ghost use mathlib.Core.Path.{_≡_};
 ghost use lib.ListN.{drop};
 ghost use Rattle.test_frames.specs.Piece.{pieceOf, seenPiece, FrameFits};
+use scan::NO_MINUS;
 use scan::read_line;
-
-// No number of the line may carry a minus.
-const NO_MINUS: usize = 8;
 
 // A piece: the bytes from `start` up to, not including, `end`.
 pub struct Frame {

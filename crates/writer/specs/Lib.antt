@@ -1,2 +1,4 @@
+-- ---- definitions to believe
 pub mod Wrote
+-- ---- laws
 pub mod Lines

@@ -1,13 +1,13 @@
--- Laws of lines one after the other, and of the places of a sheet's lines.
+-- How many lines a sheet has, and laws of their places.
 -- Assumes nothing.
 use mathlib.Core.Path.{_≡_, refl, sym, ap, _∙_}
 use mathlib.Core.List.{List, [], _∷_, _++_, map}
 use Prim.Native.Nat.{ℕ, zero, suc, _+_, _-_, _≤_, _<_}
 use native.Mathlib.Omega.{arith}
-use native.Mathlib.Numerals.{add-one}
-use lib.ListN.{length, drop, take, getD, length-append, length-map, List·getD-append, drop-of-length-le}
-use lib.Seq.{drop-cons, length-take-le, getD-take, getD-append-add}
-use Rattle.text.specs.Text.{lineText}
+use lib.ListN.{length, take, getD, length-append, length-map, List·getD-append}
+use lib.Seq.{length-take-le, getD-take, getD-append-add}
+use Rattle.sizes.specs.Sizes.{mostTypes, mostOperations, mostEdges}
+use Rattle.text.specs.Lines.{Line, countLine, noLine}
 use Rattle.text.specs.Keys as key
 use Rattle.dependence.specs.declared.Edge.{Edge}
 use Rattle.dependence.specs.Graph.{noEdge}
@@ -15,24 +15,15 @@ use Rattle.sheet.specs.declared.Sheet.{Sheet}
 use Rattle.sheet.specs.declared.Operation.{Operation}
 use Rattle.sheet.specs.declared.ResourceType.{ResourceType}
 use Rattle.sheet.specs.Sheet.{noType, noOperation, typeAt, opAt, edgeAt}
-use Rattle.sheet.specs.Text.{Line, linesText, countLine, typeLine, opLine, edgeLine, sheetLines}
+use Rattle.sheet.specs.Text.{typeLine, opLine, edgeLine, sheetLines}
 
--- the text of one line
-abbrev pub lineTextOf : Line → List ℕ
-lineTextOf l = lineText (l .key) (l .values)
+-- horizon, cap and the count of types come first
+abbrev pub headLines : ℕ
+headLines = 3
 
--- what stands past the lines
-abbrev pub noLine : Line
-noLine = record { key = []; values = [] }
-
--- the lines from the place i on
-pub lines-front : (ls : List Line) (i : ℕ) → i < length ls → linesText (drop i ls) ≡ lineTextOf (getD ls i noLine) ++ linesText (drop (i + 1) ls)
-unfolding linesText
-lines-front ls i h = rw (add-one, drop-cons ls i noLine h)
-
-pub lines-end : (ls : List Line) (i : ℕ) → length ls ≤ i → linesText (drop i ls) ≡ []
-unfolding linesText
-lines-end ls i h = rw (drop-of-length-le ls h)
+-- those, the counts of operations and edges, and a line for each entry
+abbrev pub mostLines : ℕ
+mostLines = headLines + 2 + mostTypes + mostOperations + mostEdges
 
 -- ---- an entry of a list that is put together
 

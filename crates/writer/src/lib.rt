@@ -1,15 +1,15 @@
 // Writes a loop sheet as text into a lent buffer, line by line.
 ghost use mathlib.Core.Path.{_≡_};
-ghost use mathlib.Core.List.{[], _∷_};
 ghost use Prim.Native.Nat.{_<_, _≤_};
-ghost use lib.IntN.{pos};
 ghost use lib.ListN.{length, getD};
-ghost use Rattle.text.specs.Text.{lineText, over};
-ghost use Rattle.text.specs.Line.{keyOf, textOf};
+ghost use Rattle.sizes.specs.Sizes.{mostOperations, mostTypes};
+ghost use Rattle.text.specs.Text.{over};
+ghost use Rattle.text.specs.Line.{textOf};
+ghost use Rattle.text.specs.Lines.{lineTextOf, noLine};
 ghost use Rattle.sheet.specs.Sheet.{InRange, TypeInRange, EdgeInRange};
 ghost use Rattle.sheet.specs.Text.{typeLine, opLine, edgeLine, sheetLines, sheetText};
 ghost use Rattle.writer.specs.Wrote.{Wrote};
-ghost use Rattle.writer.specs.Lines.{lineTextOf, noLine};
+ghost use Rattle.writer.specs.Lines.{headLines, mostLines};
 use dependence::Edge;
 use sheet::Operation;
 use sheet::ResourceType;
@@ -19,93 +19,80 @@ use text::Written;
 
 // ---- one line of each kind
 
-// A number of the sheet as a line takes it.
-fn number(n: usize) -> i32
-    requires { ⌜ n ≤ 9999 ⌝ }
-    ensures { λ r. ⌜ r ≡ pos n ⌝ }
-{
-    n as i32
-}
-
-// A line with one number.
-fn count_line(key: usize, n: usize) -> Line
-    requires { ⌜ n ≤ 9999 ⌝ }
-    ensures { λ r. ⌜ textOf r ≡ lineText (keyOf key) (pos n ∷ []) ⌝ }
-{
-    text::line_of(key, 1, number(n), 0, 0, 0)
-}
-
 fn type_line(t: ResourceType) -> Line
     requires { ⌜ TypeInRange t ⌝ }
     ensures { λ r. ⌜ textOf r ≡ lineTextOf (typeLine t) ⌝ }
 {
-    text::line_of(text::TYPE, 2, number(t.instances), number(t.latency), 0, 0)
+    text::line_of(text::TYPE, 2, t.instances as i32, t.latency as i32, 0, 0)
 }
 
 fn op_line(o: Operation) -> Line
-    requires { ⌜ o .resource ≤ 9999 ⌝ }
+    requires { ⌜ o .resource ≤ mostTypes ⌝ }
     ensures { λ r. ⌜ textOf r ≡ lineTextOf (opLine o) ⌝ }
 {
-    count_line(text::OP, o.resource)
+    text::count_line(text::OP, o.resource)
 }
 
 fn edge_line(e: Edge) -> Line
-    requires { ⌜ EdgeInRange 24 e ⌝ }
+    requires { ⌜ EdgeInRange mostOperations e ⌝ }
     ensures { λ r. ⌜ textOf r ≡ lineTextOf (edgeLine e) ⌝ }
 {
     text::line_of(
         text::EDGE,
         4,
-        number(e.from),
-        number(e.to),
+        e.from as i32,
+        e.to as i32,
         e.delay,
-        number(e.distance),
+        e.distance as i32,
     )
 }
 
 // ---- the lines of a sheet by their places
 
-// The first three lines.
+// Horizon, cap and the count of types come first.
+const HEAD_LINES: usize = 3;
+
+// The first lines.
 fn head_line(s: Sheet, i: usize) -> Line
-    requires { ⌜ InRange s × (i < 3) ⌝ }
+    requires { ⌜ InRange s × (i < headLines) ⌝ }
     ensures { λ r. ⌜ textOf r ≡ lineTextOf (getD (sheetLines s) i noLine) ⌝ }
 {
     if i == 0 {
-        return count_line(text::HORIZON, s.horizon);
+        return text::count_line(text::HORIZON, s.horizon);
     }
     if i == 1 {
-        return count_line(text::CAP, s.cap);
+        return text::count_line(text::CAP, s.cap);
     }
-    count_line(text::TYPES, s.type_count)
+    text::count_line(text::TYPES, s.type_count)
 }
 
 fn line_at(s: Sheet, i: usize) -> Line
     requires { ⌜ InRange s × (i < length (sheetLines s)) ⌝ }
     ensures { λ r. ⌜ textOf r ≡ lineTextOf (getD (sheetLines s) i noLine) ⌝ }
 {
-    if i < 3 {
+    if i < HEAD_LINES {
         return head_line(s, i);
     }
-    let j = i - 3;
+    let j = i - HEAD_LINES;
     if j < s.type_count {
         return type_line(s.types[j]);
     }
     if j == s.type_count {
-        return count_line(text::OPS, s.op_count);
+        return text::count_line(text::OPS, s.op_count);
     }
     let k = j - s.type_count - 1;
     if k < s.op_count {
         return op_line(s.ops[k]);
     }
     if k == s.op_count {
-        return count_line(text::EDGES, s.edge_count);
+        return text::count_line(text::EDGES, s.edge_count);
     }
     edge_line(s.edges[k - s.op_count - 1])
 }
 
 fn line_count(s: Sheet) -> usize
     requires { ⌜ InRange s ⌝ }
-    ensures { λ r. ⌜ (r ≡ length (sheetLines s)) × (r ≤ 133) ⌝ }
+    ensures { λ r. ⌜ (r ≡ length (sheetLines s)) × (r ≤ mostLines) ⌝ }
 {
     5 + s.type_count + s.op_count + s.edge_count
 }

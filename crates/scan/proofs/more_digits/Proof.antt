@@ -5,6 +5,7 @@ use Prim.Native.Nat.{_≤_, _-_}
 use mathlib.Core.Path.{_≡_, refl, sym, _∙_}
 use native.Mathlib.Omega.{arith}
 use lib.ListN.{length, drop}
+use Rattle.text.specs.Sizes.{fourDigits}
 use Rattle.scan.specs.Number.{moreDigits, seen, within}
 use Rattle.scan.specs.Bytes.{byte-of}
 use Rattle.scan.proofs.Digits.{digit-zero, digit-full, digit-more, digit-stop, digit-end}
@@ -13,7 +14,7 @@ use Rattle.scan.proofs.more_digits.Tie as tie
 
 abbrev Inv-loop : tie.InvT-loop
 Inv-loop s at first v₀ i₀ v i =
-    (i ≤ length s) × (v ≤ 9999) × (moreDigits v (drop i s) ≡ moreDigits first (drop at s))
+    (i ≤ length s) × (v ≤ fourDigits) × (moreDigits v (drop i s) ≡ moreDigits first (drop at s))
 
 abbrev μ-loop : tie.MeasureT-loop
 μ-loop s at first v₀ i₀ v i = length s - i

@@ -4,10 +4,15 @@ use Prim.Native.Nat.{ℕ, _*_, _-_, _^_, _≤_, _<_}
 use native.Mathlib.Nat.{lt-of-lt-of-le}
 use mathlib.Core.Path.{_≡_, sym, ap, _∙_}
 use lib.ListN.{length, length-map}
+use Rattle.sizes.specs.Sizes.{mostTypes, mostOperations, mostEdges}
+use Rattle.text.specs.Keys.{opsKey, edgesKey}
 use Rattle.text.specs.Line.{keyOf}
+use Rattle.text.specs.Lines.{lineTextOf}
+use Rattle.text.specs.Joined.{one-number}
 use Rattle.sheet.specs.Facts.{types-most, ops-most, edges-most, resource-below}
-use Rattle.writer.specs.Lines.{lineTextOf, line-count, last-place, type-place, ops-place, op-place, edges-place, edge-place}
+use Rattle.writer.specs.Lines.{line-count, last-place, type-place, ops-place, op-place, edges-place, edge-place}
 use native.Mathlib.Omega.{arith}
+use borrow.Author.Needs.{needs}
 use Rattle.writer.proofs.line_at.Statement.{statement}
 use Rattle.writer.proofs.line_at.Tie as tie
 
@@ -17,9 +22,9 @@ fits c =
     let r = types-most (c .pre .0) in
     let n = ops-most (c .pre .0) in
     let e = edges-most (c .pre .0) in
-    let a : length (c .args .t1 .types) ≡ 8 = sym (length-map (c .args .t1 .types) _) ∙ c .good .0 .1 .1 .1 .1 .1 .0 .1 .0 .1 in
-    let b : length (c .args .t1 .ops) ≡ 24 = sym (length-map (c .args .t1 .ops) _) ∙ c .good .0 .1 .1 .1 .1 .1 .1 .1 .0 .1 .0 .1 in
-    let d : length (c .args .t1 .edges) ≡ 96 = sym (length-map (c .args .t1 .edges) _) ∙ c .good .0 .1 .1 .1 .1 .1 .1 .1 .1 .1 .0 .1 .0 .1 in
+    let a : length (c .args .t1 .types) ≡ mostTypes = sym (length-map (c .args .t1 .types) _) ∙ c .good .0 .1 .1 .1 .1 .1 .0 .1 .0 .1 in
+    let b : length (c .args .t1 .ops) ≡ mostOperations = sym (length-map (c .args .t1 .ops) _) ∙ c .good .0 .1 .1 .1 .1 .1 .1 .1 .0 .1 .0 .1 in
+    let d : length (c .args .t1 .edges) ≡ mostEdges = sym (length-map (c .args .t1 .edges) _) ∙ c .good .0 .1 .1 .1 .1 .1 .1 .1 .1 .1 .0 .1 .0 .1 in
     (omega arith, omega arith, omega arith)
 
 -- past the other lines stand those of the edges
@@ -31,7 +36,7 @@ edge-below c h p q u v =
     let n = line-count (c .args .t1) (f .0) (f .1) (f .2) in
     last-place (c .args .i) (c .args .t1 .«type_count») (c .args .t1 .«op_count») (c .args .t1 .«edge_count») h p q u v (rw n at (c .pre .1))
 
-small-place : (x : ℕ) → x < 96 → x * 32 < 2 ^ 64
+small-place : (x : ℕ) → x < mostEdges → x * 32 < 2 ^ 64
 small-place x h = omega arith
 
 head-line-requires : tie.Need-head-line-requires
@@ -56,14 +61,15 @@ returns-2 c =
     c .type-line .ensures ∙ ap lineTextOf (sym (type-place (s .args .t1) (f .0) (f .1) (f .2) (s .args .i) (c .before .before .before .if1 .left) (c .before .before .if2 .taken)))
 
 count-line-requires : tie.Need-count-line-requires
-count-line-requires c κs = let m = ops-most (c .before .before .before .pre .0) in omega arith
+count-line-requires c κs = search needs
 
 returns-3 : tie.Need-returns-3
 unfolding keyOf
 returns-3 c =
     let s = c .before .before .before .before in
     let f = fits s in
-    c .count-line .ensures ∙ ap lineTextOf (sym (ops-place (s .args .t1) (f .0) (f .1) (f .2) (s .args .i) (c .before .before .before .if1 .left) (c .before .if3 .taken)))
+    let m = ops-most (s .pre .0) in
+    one-number opsKey (s .args .t1 .«op_count») (omega arith) (c .count-line .ensures) ∙ ap lineTextOf (sym (ops-place (s .args .t1) (f .0) (f .1) (f .2) (s .args .i) (c .before .before .before .if1 .left) (c .before .if3 .taken)))
 
 sub-k : tie.Need-sub-k
 sub-k c = omega arith
@@ -93,7 +99,7 @@ returns-4 c =
     c .op-line .ensures ∙ ap lineTextOf (sym (op-place (s .args .t1) (f .0) (f .1) (f .2) (s .args .i) (c .before .before .before .before .before .if1 .left) (omega arith) (c .before .before .if4 .taken)))
 
 count-line-requires-2 : tie.Need-count-line-requires-2
-count-line-requires-2 c κs = let m = edges-most (c .before .before .before .before .before .pre .0) in omega arith
+count-line-requires-2 c κs = search needs
 
 returns-5 : tie.Need-returns-5
 unfolding keyOf
@@ -102,7 +108,8 @@ returns-5 c =
     let f = fits s in
     let p = c .before .before .before .before .if2 .left in
     let q = c .before .before .before .if3 .left in
-    c .count-line2 .ensures ∙ ap lineTextOf (sym (edges-place (s .args .t1) (f .0) (f .1) (f .2) (s .args .i) (c .before .before .before .before .before .if1 .left) (omega arith) (c .before .if5 .taken)))
+    let m = edges-most (s .pre .0) in
+    one-number edgesKey (s .args .t1 .«edge_count») (omega arith) (c .count-line2 .ensures) ∙ ap lineTextOf (sym (edges-place (s .args .t1) (f .0) (f .1) (f .2) (s .args .i) (c .before .before .before .before .before .if1 .left) (omega arith) (c .before .if5 .taken)))
 
 sub-edge-line : tie.Need-sub-edge-line
 sub-edge-line c = omega arith

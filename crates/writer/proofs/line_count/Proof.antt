@@ -2,6 +2,7 @@
 -- From the ranges of the counts.
 use mathlib.Core.Path.{_≡_, sym, ap, _∙_}
 use lib.ListN.{length, length-map}
+use Rattle.sizes.specs.Sizes.{mostTypes, mostOperations, mostEdges}
 use Rattle.sheet.specs.Facts.{types-most, ops-most, edges-most}
 use Rattle.writer.specs.Lines.{line-count}
 use native.Mathlib.Omega.{arith}
@@ -35,9 +36,9 @@ returns c =
     let r = types-most (c .before .before .before .pre) in
     let n = ops-most (c .before .before .before .pre) in
     let e = edges-most (c .before .before .before .pre) in
-    let a : length (s .types) ≡ 8 = sym (length-map (s .types) _) ∙ c .before .before .before .good .0 .1 .1 .1 .1 .1 .0 .1 .0 .1 in
-    let b : length (s .ops) ≡ 24 = sym (length-map (s .ops) _) ∙ c .before .before .before .good .0 .1 .1 .1 .1 .1 .1 .1 .0 .1 .0 .1 in
-    let d : length (s .edges) ≡ 96 = sym (length-map (s .edges) _) ∙ c .before .before .before .good .0 .1 .1 .1 .1 .1 .1 .1 .1 .1 .0 .1 .0 .1 in
+    let a : length (s .types) ≡ mostTypes = sym (length-map (s .types) _) ∙ c .before .before .before .good .0 .1 .1 .1 .1 .1 .0 .1 .0 .1 in
+    let b : length (s .ops) ≡ mostOperations = sym (length-map (s .ops) _) ∙ c .before .before .before .good .0 .1 .1 .1 .1 .1 .1 .1 .0 .1 .0 .1 in
+    let d : length (s .edges) ≡ mostEdges = sym (length-map (s .edges) _) ∙ c .before .before .before .good .0 .1 .1 .1 .1 .1 .1 .1 .1 .1 .0 .1 .0 .1 in
     (sym (line-count s (omega arith) (omega arith) (omega arith)), omega arith)
 
 pub line-count-spec : {M : Type 1} → statement M

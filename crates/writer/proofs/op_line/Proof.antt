@@ -1,6 +1,9 @@
 -- `writer::op_line` meets its contract.
 -- From what `count_line` ensures.
+use Rattle.text.specs.Keys.{opKey}
 use Rattle.text.specs.Line.{keyOf}
+use Rattle.text.specs.Joined.{one-number}
+use native.Mathlib.Omega.{arith}
 use borrow.Author.Needs.{needs}
 use Rattle.writer.proofs.op_line.Statement.{statement}
 use Rattle.writer.proofs.op_line.Tie as tie
@@ -10,7 +13,7 @@ count-line-requires c κs = search needs
 
 returns : tie.Need-returns
 unfolding keyOf
-returns c = c .count-line .ensures
+returns c = one-number opKey (c .before .args .o .resource) (omega arith) (c .count-line .ensures)
 
 pub op-line-spec : {M : Type 1} → statement M
 op-line-spec =

@@ -1,18 +1,15 @@
--- `writer::text_length` meets its contract. The invariant: the bytes counted and those of the lines still to come make the whole text.
--- From the laws of lines one after the other.
-use Prim.Native.Nat.{_+_, _*_, _-_, _≤_}
-use mathlib.Core.Path.{_≡_, sym, ap, _∙_}
-use lib.ListN.{length, drop, getD, length-append}
-use Rattle.sheet.specs.Text.{linesText, sheetLines, sheetText}
-use Rattle.writer.specs.Lines.{lineTextOf, noLine, lines-front, lines-end}
+-- `writer::text_length` meets its contract. The invariant: the bytes of the lines before i are counted.
+-- From the laws of the count of lines.
+use Prim.Native.Nat.{_-_, _≤_}
+use Rattle.text.specs.Filling.{Counted, counted-none, counted-more, counted-all}
+use Rattle.sheet.specs.Text.{sheetLines}
 use native.Mathlib.Omega.{arith}
 use borrow.Author.Needs.{needs}
 use Rattle.writer.proofs.text_length.Statement.{statement}
 use Rattle.writer.proofs.text_length.Tie as tie
 
 abbrev Inv-loop : tie.InvT-loop
-Inv-loop s lines total₀ i₀ total i =
-    (i ≤ lines) × (total ≤ 297 * i) × (total + length (linesText (drop i (sheetLines s))) ≡ length (sheetText s))
+Inv-loop s lines total₀ i₀ total i = (i ≤ lines) × Counted (sheetLines s) i total
 
 abbrev μ-loop : tie.MeasureT-loop
 μ-loop s lines total₀ i₀ total i = lines - i
@@ -21,7 +18,7 @@ line-count-requires : tie.Need-line-count-requires Inv-loop μ-loop
 line-count-requires c κs = c .pre
 
 loop-holds : tie.Need-loop-holds Inv-loop μ-loop
-loop-holds c = (omega arith, omega arith, omega arith)
+loop-holds c = (omega arith, counted-none (sheetLines (c .before .args .s)))
 
 line-at-requires : tie.Need-line-at-requires Inv-loop μ-loop
 line-at-requires c κs = let n = c .before .before .line-count .ensures .0 in (c .before .before .before .pre, omega arith)
@@ -30,7 +27,7 @@ line-length-requires : tie.Need-line-length-requires Inv-loop μ-loop
 line-length-requires c κs = search needs
 
 add-total : tie.Need-add-total Inv-loop μ-loop
-add-total c = omega arith
+add-total c = let m = c .before .before .before .loop .inv .1 .most in omega arith
 
 add-i : tie.Need-add-i Inv-loop μ-loop
 add-i c = omega arith
@@ -40,21 +37,12 @@ loop-less c = omega arith
 
 loop-again : tie.Need-loop-again Inv-loop μ-loop
 loop-again c =
-    let l = c .before .before .before .loop in
-    let ls = sheetLines (c .before .before .before .before .before .args .s) in
     let n = c .before .before .before .before .line-count .ensures .0 in
-    let f = lines-front ls (l .i) (omega (arith, c .before .before .loop-test .taken)) in
-    let g = ap length f ∙ length-append (lineTextOf (getD ls (l .i) noLine)) (linesText (drop (l .i + 1) ls)) in
-    let w = ap length (c .before .line-at .ensures) in
     let q = c .line-length .ensures in
-    (omega arith, omega arith, omega arith)
+    (omega arith, counted-more (c .before .before .before .loop .inv .1) (omega (arith, c .before .before .loop-test .taken)) (c .before .line-at .ensures) (q .0) (q .1))
 
 returns : tie.Need-returns Inv-loop μ-loop
-returns c =
-    let l = c .before .loop in
-    let n = c .before .before .line-count .ensures .0 in
-    let z = ap length (lines-end (sheetLines (c .before .before .before .args .s)) (l .i) (omega arith)) in
-    omega arith
+returns c = let n = c .before .before .line-count .ensures .0 in counted-all (c .before .loop .inv .1) (omega arith)
 
 pub text-length-spec : {M : Type 1} → statement M
 text-length-spec =

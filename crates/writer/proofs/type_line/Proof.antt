@@ -3,7 +3,7 @@
 use mathlib.Core.Path.{_∙_, ap₂}
 use mathlib.Core.List.{[], _∷_}
 use lib.IntN.{ℤ}
-use Rattle.laws.specs.Z.{kept, fits32}
+use Rattle.laws.specs.Z.{cast-kept}
 use Rattle.text.specs.Text.{lineText}
 use Rattle.text.specs.Keys.{typeKey}
 use Rattle.text.specs.Line.{keyOf}
@@ -13,11 +13,11 @@ use borrow.Author.Needs.{needs}
 use Rattle.writer.proofs.type_line.Statement.{statement}
 use Rattle.writer.proofs.type_line.Tie as tie
 
-number-requires : tie.Need-number-requires
-number-requires c κs = let m = most (c .pre .instances) in omega arith
+cast-line-of : tie.Need-cast-line-of
+cast-line-of c = let m = most (c .before .pre .instances) in omega arith
 
-number-requires-2 : tie.Need-number-requires-2
-number-requires-2 c κs = let m = most (c .before .pre .latency) in omega arith
+cast-line-of-2 : tie.Need-cast-line-of-2
+cast-line-of-2 c = let m = most (c .before .before .pre .latency) in omega arith
 
 line-of-requires : tie.Need-line-of-requires
 line-of-requires c κs = search needs
@@ -25,15 +25,18 @@ line-of-requires c κs = search needs
 returns : tie.Need-returns
 unfolding keyOf
 returns c =
-    let a = c .before .before .number in
-    let b = c .before .number2 in
-    c .line-of .ensures .1 ∙ ap₂ (λ (x y : ℤ). lineText typeKey (x ∷ y ∷ [])) (kept (fits32 (a .ok)) ∙ a .ensures) (kept (fits32 (b .ok)) ∙ b .ensures)
+    let s = c .before .before .before in
+    let t = s .args .t in
+    let a = most (s .pre .instances) in
+    let b = most (s .pre .latency) in
+    c .line-of .ensures .1
+    ∙ ap₂ (λ (x y : ℤ). lineText typeKey (x ∷ y ∷ [])) (cast-kept (t .instances) (omega arith)) (cast-kept (t .latency) (omega arith))
 
 pub type-line-spec : {M : Type 1} → statement M
 type-line-spec =
     tie.close
     (tie.spec
-    number-requires
-    number-requires-2
+    cast-line-of
+    cast-line-of-2
     line-of-requires
     returns)

@@ -2,6 +2,7 @@
 -- Assumes nothing.
 use borrow.Author.Needs.{needs}
 use Prim.Native.Nat.{_-_}
+use Rattle.sizes.specs.Sizes.{mostEdges}
 use Rattle.dependence.specs.Graph.{noEdge}
 use Rattle.reader.specs.Kinds.{edgeKind}
 use Rattle.reader.specs.Steps.{Turn, start, stops, turn, done}
@@ -9,13 +10,13 @@ use Rattle.reader.proofs.sections.edge_lines.Statement.{statement}
 use Rattle.reader.proofs.sections.edge_lines.Tie as tie
 
 abbrev Inv-loop : tie.InvT-loop
-Inv-loop s at count ops entries₀ p₀ i₀ entries p i = Turn (edgeKind ops) 96 noEdge s at count entries p i
+Inv-loop s at count ops entries₀ p₀ i₀ entries p i = Turn (edgeKind ops) mostEdges noEdge s at count entries p i
 
 abbrev μ-loop : tie.MeasureT-loop
 μ-loop s at count ops entries₀ p₀ i₀ entries p i = count - i
 
 loop-holds : tie.Need-loop-holds Inv-loop μ-loop
-loop-holds c = start _ 96 noEdge _ _ _ (c .before .pre .0)
+loop-holds c = start _ mostEdges noEdge _ _ _ (c .before .pre .0)
 
 read-edge-requires : tie.Need-read-edge-requires Inv-loop μ-loop
 read-edge-requires c κs = search needs

@@ -2,6 +2,7 @@
 -- Assumes nothing.
 use borrow.Author.Needs.{needs}
 use Prim.Native.Nat.{_-_}
+use Rattle.sizes.specs.Sizes.{mostOperations}
 use Rattle.sheet.specs.Sheet.{noOperation}
 use Rattle.reader.specs.Kinds.{opKind}
 use Rattle.reader.specs.Steps.{Turn, start, stops, turn, done}
@@ -9,13 +10,13 @@ use Rattle.reader.proofs.sections.op_lines.Statement.{statement}
 use Rattle.reader.proofs.sections.op_lines.Tie as tie
 
 abbrev Inv-loop : tie.InvT-loop
-Inv-loop s at count types entries₀ p₀ i₀ entries p i = Turn (opKind types) 24 noOperation s at count entries p i
+Inv-loop s at count types entries₀ p₀ i₀ entries p i = Turn (opKind types) mostOperations noOperation s at count entries p i
 
 abbrev μ-loop : tie.MeasureT-loop
 μ-loop s at count types entries₀ p₀ i₀ entries p i = count - i
 
 loop-holds : tie.Need-loop-holds Inv-loop μ-loop
-loop-holds c = start _ 24 noOperation _ _ _ (c .before .pre .0)
+loop-holds c = start _ mostOperations noOperation _ _ _ (c .before .pre .0)
 
 read-op-requires : tie.Need-read-op-requires Inv-loop μ-loop
 read-op-requires c κs = search needs

@@ -2,6 +2,7 @@
 -- Assumes nothing.
 use borrow.Author.Needs.{needs}
 use Prim.Native.Nat.{_-_}
+use Rattle.sizes.specs.Sizes.{mostTypes}
 use Rattle.sheet.specs.Sheet.{noType}
 use Rattle.reader.specs.Kinds.{typeKind}
 use Rattle.reader.specs.Steps.{Turn, start, stops, turn, done}
@@ -9,13 +10,13 @@ use Rattle.reader.proofs.sections.type_lines.Statement.{statement}
 use Rattle.reader.proofs.sections.type_lines.Tie as tie
 
 abbrev Inv-loop : tie.InvT-loop
-Inv-loop s at count entries₀ p₀ i₀ entries p i = Turn typeKind 8 noType s at count entries p i
+Inv-loop s at count entries₀ p₀ i₀ entries p i = Turn typeKind mostTypes noType s at count entries p i
 
 abbrev μ-loop : tie.MeasureT-loop
 μ-loop s at count entries₀ p₀ i₀ entries p i = count - i
 
 loop-holds : tie.Need-loop-holds Inv-loop μ-loop
-loop-holds c = start _ 8 noType _ _ _ (c .before .pre .0)
+loop-holds c = start _ mostTypes noType _ _ _ (c .before .pre .0)
 
 read-type-requires : tie.Need-read-type-requires Inv-loop μ-loop
 read-type-requires c κs = search needs
