@@ -13,7 +13,7 @@ use lib.ListN.{length, drop, take, getD, set, replicate, length-append, length-s
 use lib.Seq.{take-suc-set, set-append-seam, getD-take, length-take-le}
 use lib.Signed.{nonNeg}
 use mir.Syntax.{w32, w64}
-use mir.Val.{SFits, Fits, toZ, ofZ}
+use mir.Val.{Fits, toZ, ofZ}
 use borrow.Author.Tests.{not-true, not-false, ne-eqb}
 use Rattle.text.specs.Sizes.{fourDigits}
 use Rattle.laws.specs.Z.{kept, true-false, four-digits}

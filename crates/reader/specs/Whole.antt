@@ -1,6 +1,6 @@
 -- The whole sheet, section by section: where reading stops, and what it gives when nothing stops it.
 -- Assumes nothing.
-use mathlib.Core.Path.{_≡_, refl, sym}
+use mathlib.Core.Path.{_≡_, sym}
 use mathlib.Core.List.{List, [], _∷_}
 use Prim.Native.Nat.{ℕ, _≤_, _<_}
 use native.Mathlib.Omega.{arith}
@@ -14,7 +14,7 @@ use Rattle.sheet.specs.declared.Operation.{Operation}
 use Rattle.sheet.specs.declared.ResourceType.{ResourceType}
 use Rattle.sheet.specs.Sheet.{noType, noOperation}
 use Rattle.reader.specs.declared.ReadAnswer.{ReadAnswer}
-use Rattle.reader.specs.Found.{Found, found, refused, lineFrom, sectionFrom}
+use Rattle.reader.specs.Found.{found, refused, lineFrom, sectionFrom}
 use Rattle.reader.specs.Seen.{Filled}
 use Rattle.reader.specs.Kinds.{horizonKind, capKind, typesKind, opsKind, edgesKind, typeKind, opKind, edgeKind}
 use Rattle.reader.specs.Read.{longestSheet, sheetOf, sheetFrom, refusal, accepted, readOf}

@@ -1,7 +1,9 @@
+-- ---- definitions to believe
 pub mod Print
+pub mod PlanText
+pub mod Printing
+-- ---- laws
 pub mod Small
 pub mod Places
 pub mod Bounds
-pub mod PlanText
-pub mod Printing
 pub mod Reading

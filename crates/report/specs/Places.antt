@@ -1,7 +1,7 @@
 -- Laws of the lines of one interval: how many they are, and which stands where.
 -- Assumes nothing.
 use mathlib.Core.Path.{_≡_, refl, sym, ap, _∙_}
-use mathlib.Core.List.{List, [], _∷_, _++_, map, append-assoc}
+use mathlib.Core.List.{List, [], _∷_, map}
 use Prim.Native.Nat.{ℕ, zero, suc, _+_, _-_, _≤_, _<_}
 use native.Mathlib.Omega.{arith}
 use native.Mathlib.Decide.{decLt}
@@ -10,14 +10,19 @@ use lib.ListN.{length, getD, take, length-map, List·getD-map}
 use lib.Seq.{ext-getD}
 use borrow.Author.Tests.{eq-eqb, ne-eqb}
 use Rattle.laws.specs.Entry.{vec}
+use Rattle.sizes.specs.Sizes.{mostOperations}
+use Rattle.text.specs.Sizes.{mostValues}
 use Rattle.text.specs.Text.{lineText}
+use Rattle.text.specs.Lines.{Line, noLine}
 use Rattle.text.specs.Line.{keyOf, textOf}
 use Rattle.text.specs.Joined.{line-text}
 use Rattle.sheet.specs.declared.Sheet.{Sheet}
-use Rattle.sheet.specs.Text.{Line, linesText}
 use Rattle.plan.specs.declared.PlanAnswer.{PlanAnswer}
-use Rattle.writer.specs.Lines.{noLine}
 use Rattle.report.specs.Print.{answerLine, intervalLine, loopLine, atLine, each, detail, intervalLines}
+
+-- the answer and the interval come first
+abbrev pub headLines : ℕ
+headLines = 2
 
 each-length : (n : ℕ) (f : ℕ → Line) → length (each n f) ≡ n
 unfolding each
@@ -43,15 +48,15 @@ module _ (s : Sheet) (L : ℕ) (a : PlanAnswer) where
   unfolding detail
   detail-else e f = rw (ne-eqb (a .answer) 0 e, ne-eqb (a .answer) 5 f)
 
-  pub count-0 : a .answer ≡ 0 → length (intervalLines s L a) ≡ 2 + s .«op_count»
+  pub count-0 : a .answer ≡ 0 → length (intervalLines s L a) ≡ headLines + s .«op_count»
   unfolding intervalLines
   count-0 e = let n = ap length (detail-0 e) ∙ each-length (s .«op_count») (λ i. atLine (vec (a .starts) i) (vec (a .instances) i)) in omega arith
 
-  pub count-5 : a .answer ≡ 5 → length (intervalLines s L a) ≡ 3
+  pub count-5 : a .answer ≡ 5 → length (intervalLines s L a) ≡ headLines + 1
   unfolding intervalLines
   count-5 e = let n = ap length (detail-5 e) in omega arith
 
-  pub count-else : (a .answer ≡ 0 → ⊥) → (a .answer ≡ 5 → ⊥) → length (intervalLines s L a) ≡ 2
+  pub count-else : (a .answer ≡ 0 → ⊥) → (a .answer ≡ 5 → ⊥) → length (intervalLines s L a) ≡ headLines
   unfolding intervalLines
   count-else e f = let n = ap length (detail-else e f) in omega arith
 
@@ -63,30 +68,30 @@ module _ (s : Sheet) (L : ℕ) (a : PlanAnswer) where
   unfolding intervalLines
   interval-place i e = ap (λ (k : ℕ). getD (answerLine (a .answer) ∷ intervalLine L ∷ detail s a) k noLine) e
 
-  past-two : (i : ℕ) → 2 ≤ i → getD (intervalLines s L a) i noLine ≡ getD (detail s a) (i - 2) noLine
+  past-two : (i : ℕ) → headLines ≤ i → getD (intervalLines s L a) i noLine ≡ getD (detail s a) (i - headLines) noLine
   unfolding intervalLines
-  past-two i h = let e : i ≡ suc (suc (i - 2)) = omega arith in ap (λ (k : ℕ). getD (answerLine (a .answer) ∷ intervalLine L ∷ detail s a) k noLine) e
+  past-two i h = let e : i ≡ suc (suc (i - headLines)) = omega arith in ap (λ (k : ℕ). getD (answerLine (a .answer) ∷ intervalLine L ∷ detail s a) k noLine) e
 
-  pub loop-place : (i : ℕ) → a .answer ≡ 5 → i ≡ 2 → getD (intervalLines s L a) i noLine ≡ loopLine (take (a .«loop_length») (a .«loop_edges»))
+  pub loop-place : (i : ℕ) → a .answer ≡ 5 → i ≡ headLines → getD (intervalLines s L a) i noLine ≡ loopLine (take (a .«loop_length») (a .«loop_edges»))
   loop-place i e f =
-      past-two i (omega arith) ∙ ap (λ (ls : List Line). getD ls (i - 2) noLine) (detail-5 e)
+      past-two i (omega arith) ∙ ap (λ (ls : List Line). getD ls (i - headLines) noLine) (detail-5 e)
       ∙ (let z : i - 2 ≡ 0 = omega arith in ap (λ (k : ℕ). getD (loopLine (take (a .«loop_length») (a .«loop_edges»)) ∷ []) k noLine) z)
 
-  pub at-place : (i : ℕ) → a .answer ≡ 0 → 2 ≤ i → i - 2 < s .«op_count» → getD (intervalLines s L a) i noLine ≡ atLine (vec (a .starts) (i - 2)) (vec (a .instances) (i - 2))
+  pub at-place : (i : ℕ) → a .answer ≡ 0 → headLines ≤ i → i - headLines < s .«op_count» → getD (intervalLines s L a) i noLine ≡ atLine (vec (a .starts) (i - headLines)) (vec (a .instances) (i - headLines))
   at-place i e h g =
-      past-two i h ∙ ap (λ (ls : List Line). getD ls (i - 2) noLine) (detail-0 e)
-      ∙ each-at (s .«op_count») (λ k. atLine (vec (a .starts) k) (vec (a .instances) k)) (i - 2) g
+      past-two i h ∙ ap (λ (ls : List Line). getD ls (i - headLines) noLine) (detail-0 e)
+      ∙ each-at (s .«op_count») (λ k. atLine (vec (a .starts) k) (vec (a .instances) k)) (i - headLines) g
 
   -- past the first two lines, with no loop, there is a plan
-  pub only-plan : (i : ℕ) → i < length (intervalLines s L a) → (a .answer ≡ 5 → ⊥) → 2 ≤ i → (a .answer ≡ 0) × (i - 2 < s .«op_count»)
+  pub only-plan : (i : ℕ) → i < length (intervalLines s L a) → (a .answer ≡ 5 → ⊥) → headLines ≤ i → (a .answer ≡ 0) × (i - headLines < s .«op_count»)
   only-plan i h n g = at (decLt 0 (a .answer))
     where
-      at : Dec (0 < a .answer) → (a .answer ≡ 0) × (i - 2 < s .«op_count»)
+      at : Dec (0 < a .answer) → (a .answer ≡ 0) × (i - headLines < s .«op_count»)
       at (yes p) = let c = count-else (λ z. omega arith) n in absurd (omega arith)
       at (no p) = let z : a .answer ≡ 0 = omega arith in let c = count-0 z in (z, omega arith)
 
 -- numbers one by one, and the first of them
-numbers-are : (es : List ℕ) (vs : List ℤ) → length es ≡ 24 → length vs ≡ 24 → ((k : ℕ) → k < 24 → getD vs k (pos 0) ≡ pos (getD es k 0)) → vs ≡ map pos es
+numbers-are : (es : List ℕ) (vs : List ℤ) → length es ≡ mostOperations → length vs ≡ mostValues → ((k : ℕ) → k < mostValues → getD vs k (pos 0) ≡ pos (getD es k 0)) → vs ≡ map pos es
 numbers-are es vs l m e =
     ext-getD (pos 0) vs (map pos es) (m ∙ sym l ∙ sym (length-map es pos)) (λ k h. e k (omega arith) ∙ sym (List·getD-map pos es k 0))
 
@@ -95,7 +100,11 @@ take-map zero es = refl
 take-map (suc n) [] = refl
 take-map (suc n) (e ∷ es) = ap (λ (l : List ℤ). pos e ∷ l) (take-map n es)
 
+-- the number of the key `loop=`
+abbrev loopNumber : ℕ
+loopNumber = 10
+
 -- the text of the loop's line
-pub loop-text : (n : ℕ) (es : List ℕ) (vs : List ℤ) → length es ≡ 24 → length vs ≡ 24 → ((k : ℕ) → k < 24 → getD vs k (pos 0) ≡ pos (getD es k 0))
-    → textOf (record { key = 10; count = n; values = vs }) ≡ lineText (keyOf 10) (map pos (take n es))
-loop-text n es vs l m e = line-text 10 n vs (map pos (take n es)) (ap (take n) (numbers-are es vs l m e) ∙ take-map n es)
+pub loop-text : (n : ℕ) (es : List ℕ) (vs : List ℤ) → length es ≡ mostOperations → length vs ≡ mostValues → ((k : ℕ) → k < mostValues → getD vs k (pos 0) ≡ pos (getD es k 0))
+    → textOf (record { key = loopNumber; count = n; values = vs }) ≡ lineText (keyOf loopNumber) (map pos (take n es))
+loop-text n es vs l m e = line-text loopNumber n vs (map pos (take n es)) (ap (take n) (numbers-are es vs l m e) ∙ take-map n es)

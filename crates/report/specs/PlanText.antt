@@ -6,8 +6,8 @@ use Rattle.laws.specs.Entry.{zeros}
 use Rattle.text.specs.declared.Written.{Written}
 use Rattle.text.specs.Text.{bufferOf}
 use Rattle.text.specs.Line.{writtenOf}
+use Rattle.text.specs.Lines.{linesText}
 use Rattle.sheet.specs.declared.Sheet.{Sheet}
-use Rattle.sheet.specs.Text.{linesText}
 use Rattle.plan.specs.declared.PlanAnswer.{PlanAnswer}
 use Rattle.plan.specs.Answers.{PlanAt}
 use Rattle.plan.specs.Unique.{plan-at-unique}
@@ -26,7 +26,7 @@ refusedBy a = record { answer = a .answer; count = 0; «loop_length» = a .«loo
 abbrev pub edgeless : Written → PlanWritten
 edgeless w = record { answer = w .answer; count = w .count; «loop_length» = 0; «loop_edges» = zeros }
 
--- 3 to 6, and the buffer as it was; else the plan's text where the whole of it fits, or 9
+-- the refusal of the plan at that interval, and the buffer as it was; else the plan's text where the whole of it fits, or 9
 pub data PlanText (s : Sheet) (L : ℕ) (old : List ℕ) : PlanWritten → List ℕ → Type 0 where
   refusal : {a : PlanAnswer} → PlanAt s L a → (a .answer ≡ 0 → ⊥) → PlanText s L old (refusedBy a) old
   text : {a : PlanAnswer} → PlanAt s L a → a .answer ≡ 0 → PlanText s L old (edgeless (writtenOf (planText s L a) old)) (bufferOf (planText s L a) old)
@@ -38,10 +38,10 @@ made p z e f = rw (e, f) (text p z)
 
 -- at most one answer and one buffer fit
 pub once : {s : Sheet} {L : ℕ} {old : List ℕ} {r r′ : PlanWritten} {new new′ : List ℕ} → PlanText s L old r new → PlanText s L old r′ new′ → (r ≡ r′) × (new ≡ new′)
-once (refusal p n) (refusal q m) = (ap refusedBy (plan-at-unique p q), refl)
-once (refusal p n) (text q m) = absurd (n (ap (λ (a : PlanAnswer). a .answer) (plan-at-unique p q) ∙ m))
-once (text p n) (refusal q m) = absurd (m (sym (ap (λ (a : PlanAnswer). a .answer) (plan-at-unique p q)) ∙ n))
+once (refusal p n) (refusal q m) = (ap refusedBy (plan-at-unique _ _ p q), refl)
+once (refusal p n) (text q m) = absurd (n (ap (λ (a : PlanAnswer). a .answer) (plan-at-unique _ _ p q) ∙ m))
+once (text p n) (refusal q m) = absurd (m (sym (ap (λ (a : PlanAnswer). a .answer) (plan-at-unique _ _ p q)) ∙ n))
 once {s} {L} {old} (text p n) (text q m) = (
-  ap (λ (a : PlanAnswer). edgeless (writtenOf (planText s L a) old)) (plan-at-unique p q),
-  ap (λ (a : PlanAnswer). bufferOf (planText s L a) old) (plan-at-unique p q),
+  ap (λ (a : PlanAnswer). edgeless (writtenOf (planText s L a) old)) (plan-at-unique _ _ p q),
+  ap (λ (a : PlanAnswer). bufferOf (planText s L a) old) (plan-at-unique _ _ p q),
 )

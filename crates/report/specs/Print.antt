@@ -8,8 +8,8 @@ use lib.ListN.{take}
 use lib.IntN.{pos}
 use Rattle.laws.specs.Entry.{vec}
 use Rattle.text.specs.Keys as key
+use Rattle.text.specs.Lines.{Line, countLine}
 use Rattle.sheet.specs.declared.Sheet.{Sheet}
-use Rattle.sheet.specs.Text.{Line, countLine}
 use Rattle.reader.specs.Read.{readOf}
 use Rattle.plan.specs.declared.PlanAnswer.{PlanAnswer}
 use Rattle.plan.specs.Answers.{PlanAt}

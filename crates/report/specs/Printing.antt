@@ -1,8 +1,8 @@
 -- Laws of a run: at most one list of lines fits a sheet, and the lines of the intervals go one after the other into a buffer.
 -- Assumes nothing.
-use mathlib.Core.Path.{_≡_, refl, sym, ap, ap₂, _∙_}
-use mathlib.Core.List.{List, [], _∷_, _++_, append-assoc}
-use Prim.Native.Nat.{ℕ, zero, suc, _+_, _*_, _-_, _≤_, _<_}
+use mathlib.Core.Path.{_≡_, refl, sym, ap, ap₂, subst, _∙_}
+use mathlib.Core.List.{List, [], _++_, append-assoc}
+use Prim.Native.Nat.{ℕ, _+_, _-_, _≤_}
 use native.Mathlib.Omega.{arith}
 use native.Mathlib.Numerals.{add-one}
 use lib.ListN.{length, take, drop, length-append}
@@ -10,25 +10,25 @@ use lib.Seq.{take-at}
 use Rattle.text.specs.Text.{over, bufferOf}
 use Rattle.text.specs.declared.Written.{Written}
 use Rattle.text.specs.Line.{writtenOf}
-use Rattle.text.specs.Writing.{length-over, over-none, extend, part-back, part-length, pasted}
+use Rattle.text.specs.Lines.{Line, linesText}
+use Rattle.text.specs.Filling.{lines-append}
+use Rattle.text.specs.Writing.{written-within, length-over, over-none, extend, part-back, pasted}
 use Rattle.sheet.specs.declared.Sheet.{Sheet}
-use Rattle.sheet.specs.Text.{Line, linesText}
-use Rattle.sheet.specs.TextLaws.{lines-append}
 use Rattle.plan.specs.declared.PlanAnswer.{PlanAnswer}
 use Rattle.plan.specs.Answers.{PlanAt}
 use Rattle.plan.specs.Unique.{plan-at-unique}
-use Rattle.report.specs.Print.{intervalLines, answerLine, Run, none, stops, goes-on, Printed, refused, read}
+use Rattle.report.specs.Print.{intervalLines, Run, none, stops, goes-on, Printed, refused, read}
 
 pub run-unique : {s : Sheet} {L : ℕ} {ls ms : List Line} → Run s L ls → Run s L ms → ls ≡ ms
 run-unique (none a) (none b) = refl
 run-unique (none a) (stops b _ _) = absurd (omega arith)
 run-unique (none a) (goes-on b _ _ _) = absurd (omega arith)
 run-unique (stops a _ _) (none b) = absurd (omega arith)
-run-unique {s} {L} (stops a p z) (stops b q y) = ap (intervalLines s L) (plan-at-unique p q)
-run-unique (stops a p z) (goes-on b q y _) = absurd (y (sym (ap (λ (x : PlanAnswer). x .answer) (plan-at-unique p q)) ∙ z))
+run-unique {s} {L} (stops a p z) (stops b q y) = ap (intervalLines s L) (plan-at-unique _ _ p q)
+run-unique (stops a p z) (goes-on b q y _) = absurd (y (sym (ap (λ (x : PlanAnswer). x .answer) (plan-at-unique _ _ p q)) ∙ z))
 run-unique (goes-on a _ _ _) (none b) = absurd (omega arith)
-run-unique (goes-on a p z _) (stops b q y) = absurd (z (ap (λ (x : PlanAnswer). x .answer) (plan-at-unique p q) ∙ y))
-run-unique {s} {L} (goes-on a p z r) (goes-on b q y t) = ap₂ (λ (x : PlanAnswer) (ns : List Line). intervalLines s L x ++ ns) (plan-at-unique p q) (run-unique r t)
+run-unique (goes-on a p z _) (stops b q y) = absurd (z (ap (λ (x : PlanAnswer). x .answer) (plan-at-unique _ _ p q) ∙ y))
+run-unique {s} {L} (goes-on a p z r) (goes-on b q y t) = ap₂ (λ (x : PlanAnswer) (ns : List Line). intervalLines s L x ++ ns) (plan-at-unique _ _ p q) (run-unique r t)
 
 -- the lines of the intervals below L are in the buffer old, up to the place at
 pub record Printing (s : Sheet) (old out : List ℕ) (L at : ℕ) : Type 0 where
@@ -56,11 +56,15 @@ put-text : {P : List Line → Type 0} {old out : List ℕ} {at : ℕ} (p : Put P
 unfolding over
 put-text {P} {old} {out} {at} p = ap (take at) (p .buffer) ∙ take-at (linesText (p .lines)) (drop (length (linesText (p .lines))) old) at (sym (p .place))
 
+-- bytes that are enough for whatever leastplan prints
+abbrev pub room : ℕ
+room = 8192
+
 -- what the whole output of leastplan is, and where it goes
 pub record Reported (bytes old : List ℕ) (r : Written) (new : List ℕ) : Type 0 where
   pub lines : List Line
   pub printed : Printed bytes lines
-  pub enough : length (linesText lines) ≤ 8192
+  pub enough : length (linesText lines) ≤ room
   pub answer : r ≡ writtenOf (linesText lines) old
   pub buffer : new ≡ bufferOf (linesText lines) old
 
@@ -78,8 +82,12 @@ once {bytes} {old} p q =
       p .buffer ∙ ap (λ (ls : List Line). bufferOf (linesText ls) old) e ∙ sym (q .buffer),
     )
 
--- the text that was put at the front of a buffer of 8,192 bytes, as it goes on
-pub reported : {bytes old : List ℕ} {r : Written} {new : List ℕ} {scratch : List ℕ} (text : List ℕ) (n : ℕ) → length scratch ≡ 8192 → Put (Printed bytes) scratch text n
+-- the bytes counted are bytes of the lent buffer
+pub reported-within : {bytes old : List ℕ} {r : Written} {new : List ℕ} → Reported bytes old r new → r .count ≤ length old
+reported-within {old = old} p = subst (λ (w : Written). w .count ≤ length old) (sym (p .answer)) (written-within (linesText (p .lines)) old)
+
+-- the text that was put at the front of a buffer with that room, as it goes on
+pub reported : {bytes old : List ℕ} {r : Written} {new : List ℕ} {scratch : List ℕ} (text : List ℕ) (n : ℕ) → length scratch ≡ room → Put (Printed bytes) scratch text n
     → r ≡ writtenOf (take n text) old → new ≡ bufferOf (take n text) old → Reported bytes old r new
 reported {bytes} {old} text n l p e f =
     let t = put-text p in

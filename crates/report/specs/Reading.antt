@@ -1,13 +1,13 @@
--- Laws: a reading's refusal has at most two digits, and a sheet that was read is in range.
+-- Laws: a reading's refusal has at most three digits, and a sheet that was read is in range.
 -- Assumes nothing.
-use mathlib.Core.Path.{_≡_, refl, sym, ap, subst}
+use mathlib.Core.Path.{_≡_, sym, ap, subst}
 use mathlib.Core.Bool.{Bool, true, false, cond}
 use mathlib.Core.List.{List, [], _∷_, _++_}
 use Prim.Native.Nat.{ℕ, zero, suc, _≤_}
 use native.Mathlib.Omega.{arith}
 use lib.Dec.{ltb}
-use lib.IntN.{ℤ}
 use lib.ListN.{length}
+use Rattle.text.specs.Sizes.{threeDigits}
 use Rattle.scan.specs.Line.{onFields, lineOf, Fields, fields, bad}
 use Rattle.sheet.specs.declared.Sheet.{Sheet}
 use Rattle.sheet.specs.Sheet.{InRange}
@@ -17,36 +17,36 @@ use Rattle.sheet.specs.AnswerLaws.{number-judged, type-judged, op-judged, edge-
 use Rattle.reader.specs.declared.ReadAnswer.{ReadAnswer}
 use Rattle.reader.specs.Found.{Found, found, refused, judged, andThen, Kind, lineFrom, linesFrom, sectionFrom}
 use Rattle.reader.specs.Kinds.{horizonKind, capKind, typesKind, opsKind, edgesKind, typeKind, opKind, edgeKind}
-use Rattle.reader.specs.Read.{sheetFrom, refusal, toTheEnd, readOf}
+use Rattle.reader.specs.Read.{longestSheet, sheetFrom, refusal, toTheEnd, readOf}
 use Rattle.round_trip.specs.RoundTrip.{only-text}
 
 abbrev Fine : {A : Type 0} → Found A → Type 0
 Fine (found a rest) = Unit {0}
-Fine (refused n) = n ≤ 99
+Fine (refused n) = n ≤ threeDigits
 
 then-fine : {A B : Type 0} (x : Found A) (f : A → List ℕ → Found B) → Fine x → ((a : A) (rest : List ℕ) → Fine (f a rest)) → Fine (andThen x f)
 then-fine (found a rest) f h g = g a rest
 then-fine (refused n) f h g = h
 
-judged-fine : {A : Type 0} (n : ℕ) (a : A) (rest : List ℕ) → n ≤ 99 → Fine (judged n a rest)
+judged-fine : {A : Type 0} (n : ℕ) (a : A) (rest : List ℕ) → n ≤ threeDigits → Fine (judged n a rest)
 judged-fine zero a rest h = tt
 judged-fine (suc n) a rest h = h
 
--- no entry of the kind has an answer of three digits
+-- no entry of the kind has an answer of more than three digits
 abbrev Few : {A : Type 0} → Kind A → Type 0
-Few {A} k = (a : A) → k .answer a ≤ 99
+Few {A} k = (a : A) → k .answer a ≤ threeDigits
 
-number-few : (field n : ℕ) → numberAnswer field n ≤ 99
-number-few field n = number-judged field n .few
+number-few : (field n : ℕ) → numberAnswer field n ≤ threeDigits
+number-few field n = let h = number-judged field n .few in omega arith
 
 type-few : Few typeKind
-type-few t = type-judged t .few
+type-few t = let h = type-judged t .few in omega arith
 
 op-few : (types : ℕ) → Few (opKind types)
-op-few types o = op-judged types o .few
+op-few types o = let h = op-judged types o .few in omega arith
 
 edge-few : (ops : ℕ) → Few (edgeKind ops)
-edge-few ops e = edge-judged ops e .few
+edge-few ops e = let h = edge-judged ops e .few in omega arith
 
 line-at-fine : {A : Type 0} (k : Kind A) → Few k → (v : Fields) → Fine (onFields v (λ vs rest. judged (k .answer (k .make vs)) (k .make vs) rest) (refused 2))
 line-at-fine k few (fields vs rest) = judged-fine (k .answer (k .make vs)) (k .make vs) rest (few (k .make vs))
@@ -75,18 +75,18 @@ sheet-fine bs =
     then-fine (sectionFrom opsKind (opKind (length types)) bs₃) _ (section-fine opsKind (number-few range.operations) (opKind (length types)) (op-few (length types)) bs₃) (λ ops bs₄.
     then-fine (sectionFrom edgesKind (edgeKind (length ops)) bs₄) _ (section-fine edgesKind (number-few range.edges) (edgeKind (length ops)) (edge-few (length ops)) bs₄) (λ edges bs₅. tt)))))
 
-end-fine : (x : Found Sheet) → Fine x → toTheEnd x .answer ≤ 999
+end-fine : (x : Found Sheet) → Fine x → toTheEnd x .answer ≤ threeDigits
 end-fine (found s []) h = omega arith
 end-fine (found s (b ∷ bs)) h = omega arith
-end-fine (refused n) h = omega arith
+end-fine (refused n) h = h
 
-long-fine : (b : Bool) (bs : List ℕ) → cond b (refusal 1) (toTheEnd (sheetFrom bs)) .answer ≤ 999
+long-fine : (b : Bool) (bs : List ℕ) → cond b (refusal 1) (toTheEnd (sheetFrom bs)) .answer ≤ threeDigits
 long-fine true bs = omega arith
 long-fine false bs = end-fine (sheetFrom bs) (sheet-fine bs)
 
-pub read-small : (bs : List ℕ) → readOf bs .answer ≤ 999
+pub read-small : (bs : List ℕ) → readOf bs .answer ≤ threeDigits
 unfolding readOf
-read-small bs = long-fine (ltb 4096 (length bs)) bs
+read-small bs = long-fine (ltb longestSheet (length bs)) bs
 
 pub read-in-range : (bs : List ℕ) → readOf bs .answer ≡ 0 → InRange (readOf bs .sheet)
 read-in-range bs z = let a = only-text bs z in subst InRange (sym (ap (λ (r : ReadAnswer). r .sheet) (a .result))) (a .inRange)

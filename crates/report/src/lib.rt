@@ -4,18 +4,21 @@ ghost use mathlib.Core.List.{[], _∷_};
 ghost use Prim.Native.Nat.{_≤_};
 ghost use lib.ListN.{length};
 ghost use Rattle.text.specs.Text.{over};
+ghost use Rattle.text.specs.Sizes.{threeDigits};
+ghost use Rattle.text.specs.Lines.{linesText};
 ghost use Rattle.sheet.specs.Sheet.{InRange};
-ghost use Rattle.sheet.specs.Text.{linesText};
 ghost use Rattle.report.specs.Print.{answerLine, Run, Printed};
+ghost use Rattle.report.specs.Bounds.{answerMost};
 ghost use Rattle.report.specs.PlanText.{PlanText};
-ghost use Rattle.report.specs.Printing.{Put, Reported};
+ghost use Rattle.report.specs.Printing.{room, Put, Reported};
 use sheet::Sheet;
+use sizes::MOST_OPERATIONS;
 use text::Written;
 
 mod lines; // lines.rt: the lines of one interval, by their places
 
 // Room for whatever leastplan prints.
-const ROOM: usize = 8192;
+pub const ROOM: usize = 8192;
 
 // The count of bytes of a plan's text, or why there is none; with 5 the first bad closed walk.
 #[repr(C)]
@@ -23,11 +26,11 @@ pub struct PlanWritten {
     pub answer: usize,
     pub count: usize,
     pub loop_length: usize,
-    pub loop_edges: [usize; 24],
+    pub loop_edges: [usize; MOST_OPERATIONS],
 }
 
-// The plan's text at the front of `out` and its count of bytes, or why there is none: 3, 4, 5 with the first bad closed walk, 6, or 9 where the whole
-// text does not fit. With a refusal `out` stays as it was.
+// The plan's text at the front of `out` and its count of bytes, or why there is none: the refusal of the plan at that interval, 5 with the first bad
+// closed walk, or 9 where the whole text does not fit. With a refusal `out` stays as it was.
 pub fn plan_text(sheet: Sheet, interval: usize, out: &mut [u8]) -> PlanWritten
     ensures { λ r. ⌜ PlanText sheet interval (now (out .entry)) r (now (out .exit)) ⌝ }
 {
@@ -46,7 +49,7 @@ pub fn plan_text(sheet: Sheet, interval: usize, out: &mut [u8]) -> PlanWritten
             answer: 9,
             count: 0,
             loop_length: 0,
-            loop_edges: [0; 24],
+            loop_edges: [0; MOST_OPERATIONS],
         };
     }
     let count = lines::fill(out, sheet, interval, a);
@@ -54,22 +57,22 @@ pub fn plan_text(sheet: Sheet, interval: usize, out: &mut [u8]) -> PlanWritten
         answer: 0,
         count,
         loop_length: 0,
-        loop_edges: [0; 24],
+        loop_edges: [0; MOST_OPERATIONS],
     }
 }
 
 // The line `answer=` alone, and how many bytes it has.
 fn put_answer(out: &mut [u8], answer: usize) -> usize
-    requires { ⌜ (answer ≤ 999) × (11 ≤ length (now out)) ⌝ }
+    requires { ⌜ (answer ≤ threeDigits) × (answerMost ≤ length (now out)) ⌝ }
     ensures { λ r. ⌜ r ≡ length (linesText (answerLine answer ∷ [])) ⌝ }
     ensures { λ r. ⌜ now (out .exit) ≡ over (linesText (answerLine answer ∷ [])) (now (out .entry)) ⌝ }
 {
-    text::put_line(out, lines::count_line(text::ANSWER, answer))
+    text::put_line(out, text::count_line(text::ANSWER, answer))
 }
 
 // The intervals from 1 up, until one has a plan.
 fn run(out: &mut [u8], sheet: Sheet) -> usize
-    requires { ⌜ InRange sheet × (8192 ≤ length (now out)) ⌝ }
+    requires { ⌜ InRange sheet × (room ≤ length (now out)) ⌝ }
     ensures { λ r. ⌜ Put (Run sheet 1) (now (out .entry)) (now (out .exit)) r ⌝ }
 {
     let cap = sheet.cap;
@@ -88,7 +91,7 @@ fn run(out: &mut [u8], sheet: Sheet) -> usize
 
 // What leastplan prints for the bytes of a sheet.
 fn print(out: &mut [u8], bytes: &[u8]) -> usize
-    requires { ⌜ 8192 ≤ length (now out) ⌝ }
+    requires { ⌜ room ≤ length (now out) ⌝ }
     ensures { λ r. ⌜ Put (Printed (now (bytes .entry))) (now (out .entry)) (now (out .exit)) r ⌝ }
 {
     let read = reader::read(bytes);
@@ -101,7 +104,7 @@ fn print(out: &mut [u8], bytes: &[u8]) -> usize
 }
 
 // All that leastplan prints, at the front of `out`, and its count of bytes; 9 where it does not fit, and then `out` stays as it was.
-// 8,192 bytes are always enough.
+// `ROOM` bytes are always enough.
 pub fn report(bytes: &[u8], out: &mut [u8]) -> Written
     ensures { λ r. ⌜ Reported (now (bytes .entry)) (now (out .entry)) r (now (out .exit)) ⌝ }
 {

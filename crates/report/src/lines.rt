@@ -1,52 +1,41 @@
 // The lines of one interval: the answer, the interval, and then the loop or a line for each operation.
 // Callers give an answer of the plan at that interval, whose numbers are small.
 ghost use mathlib.Core.Path.{_≡_};
-ghost use mathlib.Core.List.{[], _∷_};
-ghost use Prim.Native.Nat.{_<_, _≤_};
-ghost use lib.IntN.{pos};
+ghost use Prim.Native.Nat.{_+_, _<_, _≤_};
 ghost use lib.ListN.{length, getD, take};
-ghost use Rattle.text.specs.Text.{lineText, over};
-ghost use Rattle.text.specs.Line.{keyOf, textOf};
-ghost use Rattle.sheet.specs.Text.{linesText};
-ghost use Rattle.writer.specs.Lines.{lineTextOf, noLine};
+ghost use Rattle.sizes.specs.Sizes.{mostOperations};
+ghost use Rattle.text.specs.Text.{over};
+ghost use Rattle.text.specs.Sizes.{threeDigits};
+ghost use Rattle.text.specs.Line.{textOf};
+ghost use Rattle.text.specs.Lines.{lineTextOf, linesText, noLine};
 ghost use Rattle.report.specs.Print.{loopLine, atLine, intervalLines};
+ghost use Rattle.report.specs.Places.{headLines};
 ghost use Rattle.report.specs.Small.{Small, SmallList};
 use plan::PlanAnswer;
 use sheet::Sheet;
+use sizes::MOST_OPERATIONS;
 use text::Line;
+use text::MOST_VALUES;
 
-// A number as a line takes it.
-fn number(n: usize) -> i32
-    requires { ⌜ n ≤ 999 ⌝ }
-    ensures { λ r. ⌜ r ≡ pos n ⌝ }
-{
-    n as i32
-}
-
-// A line with one number.
-pub fn count_line(key: usize, n: usize) -> Line
-    requires { ⌜ n ≤ 999 ⌝ }
-    ensures { λ r. ⌜ textOf r ≡ lineText (keyOf key) (pos n ∷ []) ⌝ }
-{
-    text::line_of(key, 1, number(n), 0, 0, 0)
-}
+// The answer and the interval come first.
+const HEAD_LINES: usize = 2;
 
 fn at_line(t: usize, u: usize) -> Line
-    requires { ⌜ (t ≤ 999) × (u ≤ 999) ⌝ }
+    requires { ⌜ (t ≤ threeDigits) × (u ≤ threeDigits) ⌝ }
     ensures { λ r. ⌜ textOf r ≡ lineTextOf (atLine t u) ⌝ }
 {
-    text::line_of(text::AT, 2, number(t), number(u), 0, 0)
+    text::line_of(text::AT, 2, t as i32, u as i32, 0, 0)
 }
 
 // The loop: its first `count` edges.
-fn loop_line(edges: [usize; 24], count: usize) -> Line
+fn loop_line(edges: [usize; MOST_OPERATIONS], count: usize) -> Line
     requires { ⌜ SmallList edges ⌝ }
     ensures { λ r. ⌜ textOf r ≡ lineTextOf (loopLine (take count edges)) ⌝ }
 {
-    let mut values = [0i32; 24];
+    let mut values = [0i32; MOST_VALUES];
     let mut i = 0;
-    while i < 24 {
-        values[i] = number(edges[i]);
+    while i < MOST_VALUES {
+        values[i] = edges[i] as i32;
         i += 1;
     }
     Line {
@@ -61,30 +50,30 @@ fn line_at(s: Sheet, interval: usize, a: PlanAnswer, i: usize) -> Line
     ensures { λ r. ⌜ textOf r ≡ lineTextOf (getD (intervalLines s interval a) i noLine) ⌝ }
 {
     if i == 0 {
-        return count_line(text::ANSWER, a.answer);
+        return text::count_line(text::ANSWER, a.answer);
     }
     if i == 1 {
-        return count_line(text::INTERVAL, interval);
+        return text::count_line(text::INTERVAL, interval);
     }
     if a.answer == 5 {
         let edges = a.loop_edges;
         return loop_line(edges, a.loop_length);
     }
-    let k = i - 2;
+    let k = i - HEAD_LINES;
     at_line(a.starts[k], a.instances[k])
 }
 
 fn line_count(s: Sheet, interval: usize, a: PlanAnswer) -> usize
     requires { ⌜ Small s interval a ⌝ }
-    ensures { λ r. ⌜ (r ≡ length (intervalLines s interval a)) × (r ≤ 26) ⌝ }
+    ensures { λ r. ⌜ (r ≡ length (intervalLines s interval a)) × (r ≤ headLines + mostOperations) ⌝ }
 {
     if a.answer == 0 {
-        return 2 + s.op_count;
+        return HEAD_LINES + s.op_count;
     }
     if a.answer == 5 {
-        return 3;
+        return HEAD_LINES + 1;
     }
-    2
+    HEAD_LINES
 }
 
 // How many bytes the lines have.

@@ -1,21 +1,18 @@
 -- Each kind of line is lawful: an entry is made again from its numbers, and the numbers of a well-formed line from its entry.
 -- Assumes nothing.
-use mathlib.Core.Path.{_≡_, refl, sym, ap, _∙_}
+use mathlib.Core.Path.{_≡_, refl, sym, ap}
 use mathlib.Core.List.{List, [], _∷_}
-use Prim.Native.Nat.{ℕ, suc, _≤_, _<_}
+use Prim.Native.Nat.{ℕ, _≤_}
 use native.Mathlib.Omega.{arith}
 use lib.IntN.{ℤ, pos, negsuc, natAbs}
 use lib.ListN.{length}
 use Rattle.text.specs.Sizes.{fourDigits}
 use Rattle.laws.specs.Z.{zed}
-use Rattle.dependence.specs.declared.Edge.{Edge}
 use Rattle.scan.specs.Line.{noMinus}
 use Rattle.scan.specs.RoundTrip.{Writable}
 use Rattle.sheet.specs.Ranges as range
 use Rattle.sheet.specs.Table.{range-short, inside-short}
 use Rattle.sheet.specs.AnswerLaws.{number-judged, type-judged, op-judged, edge-judged}
-use Rattle.sheet.specs.declared.Operation.{Operation}
-use Rattle.sheet.specs.declared.ResourceType.{ResourceType}
 use Rattle.reader.specs.Found.{Kind}
 use Rattle.reader.specs.Kinds.{numberKind, typeKind, opKind, edgeKind}
 use Rattle.reader.specs.Steps.{plain-nat}

@@ -2,16 +2,15 @@
 -- as itself, with 0 past the counts. Every text fits the bytes of a sheet.
 -- Assumes nothing.
 use mathlib.Core.Path.{_≡_, refl, sym, ap, subst, _∙_}
-use mathlib.Core.List.{List, [], _∷_, _++_, map, append-assoc, append-nil}
+use mathlib.Core.List.{List, [], _∷_, _++_, map, append-nil}
 use Prim.Native.Nat.{ℕ, _+_, _*_, _-_, _≤_, _<_}
 use native.Mathlib.Omega.{arith}
 use lib.Dec.{ltb}
-use lib.IntN.{pos}
 use lib.ListN.{length, take, getD, replicate, length-append, length-replicate, List·getD-append}
 use lib.Seq.{take-append-seam, length-take-le}
 use borrow.Author.Tests.{ltb-true, ltb-false}
 use Rattle.sizes.specs.Sizes.{mostTypes, mostOperations, mostEdges}
-use Rattle.text.specs.Lines.{Line, linesText, countLine}
+use Rattle.text.specs.Lines.{linesText, countLine}
 use Rattle.text.specs.Filling.{lines-append}
 use Rattle.text.specs.Keys as key
 use Rattle.dependence.specs.declared.Edge.{Edge}

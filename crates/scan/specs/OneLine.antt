@@ -3,13 +3,13 @@
 use mathlib.Core.Path.{_≡_, refl, sym, ap, _∙_}
 use mathlib.Core.Bool.{Bool, true, false}
 use mathlib.Core.List.{List}
-use Prim.Native.Nat.{ℕ, _≤_, _<_}
+use Prim.Native.Nat.{ℕ, _<_}
 use native.Mathlib.Decide.{decLt}
 use native.Mathlib.Omega.{arith}
 use lib.IntN.{ℤ, pos}
 use lib.ListN.{length, drop, take, getD, length-drop}
 use lib.Seq.{getD-take, ext-getD}
-use Rattle.scan.specs.Line.{Fields, fields, bad, seenLine, LineFits, valueAt}
+use Rattle.scan.specs.Line.{fields, bad, seenLine, LineFits, valueAt}
 use Rattle.scan.specs.declared.Line.{Line}
 
 module _ (s : List ℕ) (k : ℕ) (l m : Line) (f : LineFits s k l) (g : LineFits s k m) where

@@ -11,9 +11,9 @@ use lib.ListN.{length, take, drop, getD, length-drop}
 use lib.Seq.{slice, getD-take, drop-drop, take-nil}
 use borrow.Author.Tests.{le-leb, lt-leb}
 use Rattle.laws.specs.Z.{zed}
-use Rattle.scan.specs.Line.{noMinus, Fields, fields, bad, dueLine, onFields, seenLine, valueAt}
+use Rattle.scan.specs.Line.{noMinus, Fields, dueLine, onFields, seenLine, valueAt}
 use Rattle.scan.specs.declared.Line.{Line}
-use Rattle.test_frames.specs.Piece.{Piece, piece, none, key, sized, pieceOf, FrameFits}
+use Rattle.test_frames.specs.Piece.{piece, none, key, sized, pieceOf, FrameFits}
 
 -- no piece
 pub nowhere : (s : List ℕ) → FrameFits s (record { ok = false; start = 0; end = 0 })

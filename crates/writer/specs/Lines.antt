@@ -1,6 +1,6 @@
 -- How many lines a sheet has, and laws of their places.
 -- Assumes nothing.
-use mathlib.Core.Path.{_≡_, refl, sym, ap, _∙_}
+use mathlib.Core.Path.{_≡_, refl, ap, _∙_}
 use mathlib.Core.List.{List, [], _∷_, _++_, map}
 use Prim.Native.Nat.{ℕ, zero, suc, _+_, _-_, _≤_, _<_}
 use native.Mathlib.Omega.{arith}
@@ -9,11 +9,8 @@ use lib.Seq.{length-take-le, getD-take, getD-append-add}
 use Rattle.sizes.specs.Sizes.{mostTypes, mostOperations, mostEdges}
 use Rattle.text.specs.Lines.{Line, countLine, noLine}
 use Rattle.text.specs.Keys as key
-use Rattle.dependence.specs.declared.Edge.{Edge}
 use Rattle.dependence.specs.Graph.{noEdge}
 use Rattle.sheet.specs.declared.Sheet.{Sheet}
-use Rattle.sheet.specs.declared.Operation.{Operation}
-use Rattle.sheet.specs.declared.ResourceType.{ResourceType}
 use Rattle.sheet.specs.Sheet.{noType, noOperation, typeAt, opAt, edgeAt}
 use Rattle.sheet.specs.Text.{typeLine, opLine, edgeLine, sheetLines}
 

@@ -8,9 +8,9 @@ use Rattle.sheet.specs.Sheet.{InRange}
 use Rattle.reader.specs.declared.ReadAnswer.{ReadAnswer}
 use Rattle.reader.specs.Read.{readOf}
 use Rattle.report.specs.Print.{answerLine, Run, Printed, refused, read}
-use Rattle.report.specs.Bounds.{answer-bound}
+use Rattle.report.specs.Bounds.{answer-most}
 use Rattle.report.specs.Reading.{read-small, read-in-range}
-use Rattle.report.specs.Printing.{Put, weaken}
+use Rattle.report.specs.Printing.{weaken}
 use native.Mathlib.Omega.{arith}
 use borrow.Author.Needs.{needs}
 use Rattle.report.proofs.print.Statement.{statement}
@@ -35,7 +35,7 @@ returns c =
     let e : r .result .answer ≡ readOf bs .answer = ap (λ (x : ReadAnswer). x .answer) (r .ensures) in
     let h = read-small bs in
     let f = c .before .before .put-answer .ensures in
-    let b = answer-bound (r .result .answer) (omega arith) in
+    let b = answer-most (r .result .answer) (omega arith) in
     let q = f .0 in
     let m = c .before .before .before .before .before .before .before .before .pre in
     record {

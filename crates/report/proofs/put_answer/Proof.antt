@@ -5,17 +5,19 @@ use mathlib.Core.Path.{_≡_, sym, ap, _∙_}
 use mathlib.Core.List.{List, [], _∷_}
 use Rattle.text.specs.Text.{bufferOf}
 use Rattle.text.specs.Line.{keyOf, textOf, countOf}
+use Rattle.text.specs.Keys.{answerKey}
+use Rattle.text.specs.Lines.{linesText}
+use Rattle.text.specs.Joined.{one-number}
 use Rattle.text.specs.Writing.{fitting}
-use Rattle.sheet.specs.Text.{linesText}
 use Rattle.report.specs.Print.{answerLine}
-use Rattle.report.specs.Bounds.{answer-bound, answer-text}
+use Rattle.report.specs.Bounds.{answer-most, answer-text}
 use native.Mathlib.Omega.{arith}
 use borrow.Author.Needs.{needs}
 use Rattle.report.proofs.put_answer.Statement.{statement}
 use Rattle.report.proofs.put_answer.Tie as tie
 
 count-line-requires : tie.Need-count-line-requires
-count-line-requires c κs = c .before .before .pre .0
+count-line-requires c κs = search needs
 
 put-line-requires : tie.Need-put-line-requires
 put-line-requires c κs = search needs
@@ -30,8 +32,8 @@ returns c =
     let n = s .args .answer in
     let old = s .args .out .now in
     let p = c .before .before .put-line .ensures in
-    let t : textOf (c .before .before .before .count-line .result) ≡ linesText (answerLine n ∷ []) = c .before .before .before .count-line .ensures ∙ sym (answer-text n) in
-    let b = answer-bound n (s .pre .0) in
+    let t : textOf (c .before .before .before .count-line .result) ≡ linesText (answerLine n ∷ []) = one-number answerKey n (omega (arith, s .pre .0)) (c .before .before .before .count-line .ensures) ∙ sym (answer-text n) in
+    let b = answer-most n (s .pre .0) in
     let h = s .pre .1 in
     let g = fitting (linesText (answerLine n ∷ [])) old (omega arith) in (
       p .0 ∙ ap (λ (x : List ℕ). countOf x old) t ∙ g .0,

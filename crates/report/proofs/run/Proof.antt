@@ -1,15 +1,15 @@
--- `report::run` meets its contract. The invariant: the lines of the intervals passed are in the buffer, at most 125 bytes for each.
+-- `report::run` meets its contract. The invariant: the lines of the intervals passed are in the buffer, each at most as long as a refusal.
 -- From the laws of a run and the bounds of an interval's lines.
 use Prim.Native.Nat.{_+_, _*_, _-_, _≤_, _<_}
 use mathlib.Core.Path.{_≡_}
 use mathlib.Core.List.{[], _∷_}
 use lib.ListN.{length}
+use Rattle.text.specs.Lines.{linesText}
 use Rattle.text.specs.Writing.{part-length}
-use Rattle.sheet.specs.Text.{linesText}
 use Rattle.sheet.specs.Facts.{cap-most}
 use Rattle.report.specs.Print.{answerLine, intervalLines, none, stops}
-use Rattle.report.specs.Small.{Small, small, edges-long}
-use Rattle.report.specs.Bounds.{any-bound, refusal-bound, answer-bound, answer-short}
+use Rattle.report.specs.Small.{Small, small}
+use Rattle.report.specs.Bounds.{answerMost, planMost, refusalMost, lines-most, refusal-most, answer-most, answer-short}
 use Rattle.report.specs.Printing.{Printing, start, same-size, more-size, finish, again, put-size}
 use native.Mathlib.Omega.{arith}
 use borrow.Author.Needs.{needs}
@@ -18,7 +18,7 @@ use Rattle.report.proofs.run.Tie as tie
 
 abbrev Inv-loop : tie.InvT-loop
 Inv-loop out₀ sheet cap at₀ interval₀ out at interval =
-    (1 ≤ interval) × (interval ≤ cap + 1) × (at ≤ 125 * (interval - 1)) × Printing sheet out₀ out interval at
+    (1 ≤ interval) × (interval ≤ cap + 1) × (at ≤ refusalMost * (interval - 1)) × Printing sheet out₀ out interval at
 
 abbrev μ-loop : tie.MeasureT-loop
 μ-loop out₀ sheet cap at₀ interval₀ out at interval = cap + 1 - interval
@@ -26,8 +26,8 @@ abbrev μ-loop : tie.MeasureT-loop
 -- at an interval: the numbers are small, the lines are short, and there is room for them
 facts : (c : tie.After-plan-at Inv-loop μ-loop)
     → Small (c .before .before .before .before .args .sheet) (c .before .before .loop .interval) (c .plan-at .result)
-    × (length (linesText (intervalLines (c .before .before .before .before .args .sheet) (c .before .before .loop .interval) (c .plan-at .result))) ≤ 288)
-    × (c .before .before .loop .at + 288 ≤ length (c .before .before .before .before .args .out .now))
+    × (length (linesText (intervalLines (c .before .before .before .before .args .sheet) (c .before .before .loop .interval) (c .plan-at .result))) ≤ planMost)
+    × (c .before .before .loop .at + planMost ≤ length (c .before .before .before .before .args .out .now))
 facts c =
     let s = c .before .before .before .before in
     let l = c .before .before .loop in
@@ -36,12 +36,11 @@ facts c =
     let r = s .pre .1 in
     let t = c .before .loop-test .taken in
     let k = small (s .pre .0) (record { low = l .inv .0; high = t }) (a .ensures) in
-    let w = edges-long (a .ensures) in
-    (k, any-bound (s .args .sheet) (l .interval) (a .result) k w, omega arith)
+    (k, lines-most (s .args .sheet) (l .interval) (a .result) k, omega arith)
 
 -- past the last interval there is room for the last line
 last : (c : tie.After-loop Inv-loop μ-loop)
-    → (c .before .loop .at + 11 ≤ length (c .before .before .before .args .out .now)) × (length (c .before .loop .out) ≡ length (c .before .before .before .args .out .now))
+    → (c .before .loop .at + answerMost ≤ length (c .before .before .before .args .out .now)) × (length (c .before .loop .out) ≡ length (c .before .before .before .args .out .now))
     × (c .before .before .before .args .sheet .cap < c .before .loop .interval)
 last c =
     let s = c .before .before .before in
@@ -129,8 +128,7 @@ loop-again c =
     let q = c .before .before .before .before .before .before .plan-at in
     let z = same-size p in
     let f = c .before .before .before .before .fill .ensures in
-    let w = edges-long (q .ensures) in
-    let b = refusal-bound (c .before .before .before .before .before .before .before .before .before .before .args .sheet) (c .before .before .before .before .before .before .before .before .loop .interval) (q .result) (k .0) w (c .if1 .left) in
+    let b = refusal-most (c .before .before .before .before .before .before .before .before .before .before .args .sheet) (c .before .before .before .before .before .before .before .before .loop .interval) (q .result) (k .0) (c .if1 .left) in
     let r = f .0 in
     (omega arith, omega arith, omega arith, again p (q .result) (c .before .before .before .before .before .before .before .loop-test .taken) (q .ensures) (c .if1 .left) (omega arith) (f .0) (f .1))
 
@@ -165,7 +163,7 @@ same-length-2 c =
 returns-2 : tie.Need-returns-2 Inv-loop μ-loop
 returns-2 c =
     let k = last (c .before .before .before .before) in
-    let b = answer-bound 7 (omega arith) in
+    let b = answer-most 7 (omega arith) in
     let f = c .before .before .put-answer .ensures in
     finish (c .before .before .before .before .before .loop .inv .3) (answerLine 7 ∷ []) (none (k .2)) (omega arith) (f .0) (f .1)
 

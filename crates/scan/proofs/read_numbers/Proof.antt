@@ -1,9 +1,9 @@
 -- `scan::read_numbers` meets its contract. The definition goes number by number as the loop does: what is read on from here, after the
 -- numbers in the array, is what is read from the start (`Fields`). Assumes nothing.
-use Prim.Native.Nat.{_≤_, _-_, _+_}
+use Prim.Native.Nat.{_≤_, _-_}
 use native.Mathlib.Nat.{sub-zero}
 use native.Mathlib.Omega.{arith}
-use mathlib.Core.Path.{_≡_, refl, sym, _∙_}
+use mathlib.Core.Path.{_≡_, sym, _∙_}
 use mathlib.Core.List.{[]}
 use lib.ListN.{length, take, drop}
 use Rattle.scan.specs.Line.{fieldsFrom, seenLine}

@@ -1,20 +1,19 @@
 -- `test_frames::next` meets its contract: the line that `read_line` sees is that of the piece (`no-line`, `line-read`), and its number says how many bytes follow.
 -- Assumes nothing.
-use mathlib.Core.Path.{_≡_, refl, sym, ap, _∙_}
-use Prim.Native.Nat.{_+_, _≤_}
+use mathlib.Core.Path.{_≡_, ap, _∙_}
 use native.Mathlib.Omega.{arith}
 use lib.IntN.{ℤ, pos, natAbs}
-use lib.Signed.{_≤ℤ_, nonNeg, yes-nonNeg, pos-natAbs}
-use lib.ListN.{length, drop, length-drop}
+use lib.Signed.{nonNeg, yes-nonNeg, pos-natAbs}
+use lib.ListN.{drop, length-drop}
 use lib.Dec.{T}
 use mir.Syntax.{w32}
 use mir.Val.{SFits}
 use mir.Facts.{fits-natAbs}
 use borrow.Author.Needs.{needs}
 use borrow.Author.Tests.{not-true, not-false}
-use Rattle.laws.specs.Z.{zed, kept, ltZ-true, ltZ-false, true-false, four-digits}
+use Rattle.laws.specs.Z.{kept, ltZ-true, ltZ-false, true-false, four-digits}
 use Rattle.scan.specs.Line.{valueAt}
-use Rattle.test_frames.specs.Piece.{sized, pieceOf, seenPiece, FrameFits}
+use Rattle.test_frames.specs.Piece.{sized, pieceOf, seenPiece}
 use Rattle.test_frames.specs.PieceLaws.{nowhere, no-line, line-read, negative, too-few, enough}
 use Rattle.test_frames.proofs.next.Statement.{statement}
 use Rattle.test_frames.proofs.next.Tie as tie

@@ -6,7 +6,7 @@ use native.Mathlib.Omega.{arith}
 use mathlib.Core.Path.{sym, ap, _∙_}
 use mathlib.Core.List.{[], _∷_}
 use lib.IntN.{ℤ, pos}
-use Rattle.laws.specs.Z.{kept, cast-kept}
+use Rattle.laws.specs.Z.{cast-kept}
 use Rattle.text.specs.Text.{lineText}
 use Rattle.text.specs.Line.{keyOf}
 use borrow.Author.Needs.{needs}

@@ -1,6 +1,6 @@
 -- `writer::line_count` meets its contract.
 -- From the ranges of the counts.
-use mathlib.Core.Path.{_≡_, sym, ap, _∙_}
+use mathlib.Core.Path.{_≡_, sym, _∙_}
 use lib.ListN.{length, length-map}
 use Rattle.sizes.specs.Sizes.{mostTypes, mostOperations, mostEdges}
 use Rattle.sheet.specs.Facts.{types-most, ops-most, edges-most}

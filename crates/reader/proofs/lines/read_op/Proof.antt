@@ -1,6 +1,6 @@
 -- `reader::lines::read_op` meets its contract: the line and what an operation answers pick the case of `lineFrom`.
 -- Assumes nothing.
-use mathlib.Core.Path.{_≡_, ap}
+use mathlib.Core.Path.{_≡_}
 use native.Mathlib.Omega.{arith}
 use lib.IntN.{pos, natAbs}
 use lib.ListN.{getD, take}

@@ -1,22 +1,15 @@
--- `report::lines::fill` meets its contract. The invariant: the text is written up to the place reached, and the lines from i on are still to come.
--- From the laws of a text written piece by piece.
-use Prim.Native.Nat.{ℕ, _+_, _-_, _≤_}
-use mathlib.Core.Path.{_≡_, sym, ap, _∙_}
-use mathlib.Core.List.{List, [], _++_}
-use lib.ListN.{length, drop}
-use Rattle.text.specs.Line.{textOf}
-use Rattle.text.specs.Progress.{Progress, begin, to, room, next-part, same-size, finish}
-use Rattle.sheet.specs.Text.{linesText}
+-- `report::lines::fill` meets its contract. The invariant: the lines before i are written, up to the place reached.
+-- From the laws of lines that go one after the other into a buffer.
+use Prim.Native.Nat.{_-_, _≤_}
+use Rattle.text.specs.Filling.{Filled, filled-none, filled-within, filled-size, filled-more, filled-all}
 use Rattle.report.specs.Print.{intervalLines}
-use Rattle.writer.specs.Lines.{lines-front, lines-end}
 use native.Mathlib.Omega.{arith}
 use borrow.Author.Needs.{needs}
 use Rattle.report.proofs.lines.fill.Statement.{statement}
 use Rattle.report.proofs.lines.fill.Tie as tie
 
 abbrev Inv-loop : tie.InvT-loop
-Inv-loop out₀ s interval a lines at₀ i₀ out at i =
-    (i ≤ lines) × Progress (linesText (intervalLines s interval a)) out₀ out (linesText (drop i (intervalLines s interval a))) at
+Inv-loop out₀ s interval a lines at₀ i₀ out at i = (i ≤ lines) × Filled (intervalLines s interval a) out₀ out i at
 
 abbrev μ-loop : tie.MeasureT-loop
 μ-loop out₀ s interval a lines at₀ i₀ out at i = lines - i
@@ -25,16 +18,16 @@ line-count-requires : tie.Need-line-count-requires Inv-loop μ-loop
 line-count-requires c κs = c .before .pre .0
 
 loop-holds : tie.Need-loop-holds Inv-loop μ-loop
-loop-holds c = (omega arith, begin (linesText (intervalLines (c .before .before .args .s) (c .before .before .args .interval) (c .before .before .args .a))) (c .before .before .args .out .now) (c .before .before .pre .1))
+loop-holds c = let s = c .before .before in (omega arith, filled-none (intervalLines (s .args .s) (s .args .interval) (s .args .a)) (s .args .out .now) (s .pre .1))
 
 sub-put-line : tie.Need-sub-put-line Inv-loop μ-loop
-sub-put-line c = let r = room [] (linesText (drop (c .before .loop .i) (intervalLines (c .before .before .before .before .args .s) (c .before .before .before .before .args .interval) (c .before .before .before .before .args .a)))) (c .before .loop .inv .1) in omega arith
+sub-put-line c = let r = filled-within (c .before .loop .inv .1) in omega arith
 
 part-put-line-start : tie.Need-part-put-line-start Inv-loop μ-loop
-part-put-line-start c = let r = room [] (linesText (drop (c .before .loop .i) (intervalLines (c .before .before .before .before .args .s) (c .before .before .before .before .args .interval) (c .before .before .before .before .args .a)))) (c .before .loop .inv .1) in omega arith
+part-put-line-start c = let r = filled-within (c .before .loop .inv .1) in omega arith
 
 part-put-line-end : tie.Need-part-put-line-end Inv-loop μ-loop
-part-put-line-end c = let r = room [] (linesText (drop (c .before .loop .i) (intervalLines (c .before .before .before .before .args .s) (c .before .before .before .before .args .interval) (c .before .before .before .before .args .a)))) (c .before .loop .inv .1) in omega arith
+part-put-line-end c = let r = filled-within (c .before .loop .inv .1) in omega arith
 
 line-at-requires : tie.Need-line-at-requires Inv-loop μ-loop
 line-at-requires c κs = let n = c .before .before .before .line-count .ensures .0 in (c .before .before .before .before .before .pre .0, omega arith)
@@ -45,15 +38,11 @@ put-line-requires c κs = search needs
 add-at : tie.Need-add-at Inv-loop μ-loop
 add-at c =
     let l = c .before .before .before .before .before .before .loop in
-    let ls = intervalLines (c .before .before .before .before .before .before .before .before .before .args .s) (c .before .before .before .before .before .before .before .before .before .args .interval) (c .before .before .before .before .before .before .before .before .before .args .a) in
     let n = c .before .before .before .before .before .before .before .line-count .ensures .0 in
-    let rest = linesText (drop (l .i + 1) ls) in
-    let piece = textOf (c .before .before .before .line-at .result) in
-    let f = lines-front ls (l .i) (omega (arith, c .before .before .before .before .before .loop-test .taken)) ∙ ap (λ (x : List ℕ). x ++ rest) (sym (c .before .before .before .line-at .ensures)) in
-    let p = c .before .before .put-line in
-    let w = next-part piece rest (to f (l .inv .1)) (p .ensures .0) (p .ensures .1) in
-    let b = room [] rest w in
-    let z = same-size w in
+    let p = c .before .before .put-line .ensures in
+    let w = filled-more (l .inv .1) (omega (arith, c .before .before .before .before .before .loop-test .taken)) (c .before .before .before .line-at .ensures) (p .0) (p .1) in
+    let b = filled-within w in
+    let z = filled-size w in
     omega (arith, c .before .before .before .before .before .before .before .before .before .good .0 .0)
 
 add-i : tie.Need-add-i Inv-loop μ-loop
@@ -65,22 +54,15 @@ loop-less c = omega arith
 loop-again : tie.Need-loop-again Inv-loop μ-loop
 loop-again c =
     let l = c .before .before .before .before .before .before .loop in
-    let ls = intervalLines (c .before .before .before .before .before .before .before .before .before .args .s) (c .before .before .before .before .before .before .before .before .before .args .interval) (c .before .before .before .before .before .before .before .before .before .args .a) in
     let n = c .before .before .before .before .before .before .before .line-count .ensures .0 in
-    let rest = linesText (drop (l .i + 1) ls) in
-    let piece = textOf (c .before .before .before .line-at .result) in
-    let f = lines-front ls (l .i) (omega (arith, c .before .before .before .before .before .loop-test .taken)) ∙ ap (λ (x : List ℕ). x ++ rest) (sym (c .before .before .before .line-at .ensures)) in
-    let p = c .before .before .put-line in
-    (omega arith, next-part piece rest (to f (l .inv .1)) (p .ensures .0) (p .ensures .1))
+    let p = c .before .before .put-line .ensures in
+    (omega arith, filled-more (l .inv .1) (omega (arith, c .before .before .before .before .before .loop-test .taken)) (c .before .before .before .line-at .ensures) (p .0) (p .1))
 
 same-length : tie.Need-same-length Inv-loop μ-loop
-same-length c = same-size (c .before .loop .inv .1)
+same-length c = filled-size (c .before .loop .inv .1)
 
 returns : tie.Need-returns Inv-loop μ-loop
-returns c =
-    let l = c .before .loop in
-    let n = c .before .before .line-count .ensures .0 in
-    finish (to (lines-end (intervalLines (c .before .before .before .before .args .s) (c .before .before .before .before .args .interval) (c .before .before .before .before .args .a)) (l .i) (omega arith)) (l .inv .1))
+returns c = let n = c .before .before .line-count .ensures .0 in filled-all (c .before .loop .inv .1) (omega arith)
 
 pub fill-spec : {M : Type 1} → statement M
 fill-spec =

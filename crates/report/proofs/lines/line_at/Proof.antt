@@ -1,27 +1,30 @@
 -- `report::lines::line_at` meets its contract.
 -- From what the writer of each kind of line ensures, and the places of the lines.
 use Prim.Native.Nat.{_-_}
-use mathlib.Core.Path.{_≡_, sym, ap, _∙_}
+use mathlib.Core.Path.{sym, ap, _∙_}
 use Rattle.text.specs.Line.{keyOf}
-use Rattle.writer.specs.Lines.{lineTextOf}
-use Rattle.report.specs.Places.{count-5, only-plan, answer-place, interval-place, loop-place, at-place}
+use Rattle.text.specs.Keys.{answerKey, intervalKey}
+use Rattle.text.specs.Lines.{lineTextOf}
+use Rattle.text.specs.Joined.{one-number}
+use Rattle.report.specs.Places.{headLines, count-5, only-plan, answer-place, interval-place, loop-place, at-place}
 use native.Mathlib.Omega.{arith}
+use borrow.Author.Needs.{needs}
 use Rattle.report.proofs.lines.line_at.Statement.{statement}
 use Rattle.report.proofs.lines.line_at.Tie as tie
 
 count-line-requires : tie.Need-count-line-requires
-count-line-requires c κs = c .before .pre .0 .answer
+count-line-requires c κs = search needs
 
 returns : tie.Need-returns
 unfolding keyOf
-returns c = let s = c .before .before in c .count-line .ensures ∙ ap lineTextOf (sym (answer-place (s .args .s) (s .args .interval) (s .args .t3) (s .args .i) (c .before .if1 .taken)))
+returns c = let s = c .before .before in one-number answerKey (s .args .t3 .answer) (omega (arith, s .pre .0 .answer)) (c .count-line .ensures) ∙ ap lineTextOf (sym (answer-place (s .args .s) (s .args .interval) (s .args .t3) (s .args .i) (c .before .if1 .taken)))
 
 count-line-requires-2 : tie.Need-count-line-requires-2
-count-line-requires-2 c κs = c .before .before .pre .0 .interval
+count-line-requires-2 c κs = search needs
 
 returns-2 : tie.Need-returns-2
 unfolding keyOf
-returns-2 c = let s = c .before .before .before in c .count-line2 .ensures ∙ ap lineTextOf (sym (interval-place (s .args .s) (s .args .interval) (s .args .t3) (s .args .i) (c .before .if2 .taken)))
+returns-2 c = let s = c .before .before .before in one-number intervalKey (s .args .interval) (omega (arith, s .pre .0 .interval)) (c .count-line2 .ensures) ∙ ap lineTextOf (sym (interval-place (s .args .s) (s .args .interval) (s .args .t3) (s .args .i) (c .before .if2 .taken)))
 
 loop-line-requires : tie.Need-loop-line-requires
 loop-line-requires c κs = c .before .before .before .before .pre .0 .edges
@@ -71,8 +74,8 @@ element-copy-out-at-line-2 c =
 at-line-requires : tie.Need-at-line-requires
 at-line-requires c κs =
     let s = c .before .before .before .before .before in
-    let t = s .pre .0 .starts (s .args .i - 2) in
-    let u = s .pre .0 .instances (s .args .i - 2) in
+    let t = s .pre .0 .starts (s .args .i - headLines) in
+    let u = s .pre .0 .instances (s .args .i - headLines) in
     (omega arith, omega arith)
 
 returns-4 : tie.Need-returns-4

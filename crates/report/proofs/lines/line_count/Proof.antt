@@ -12,6 +12,9 @@ add-result c = let o = c .before .before .before .pre .ops in omega arith
 returns : tie.Need-returns
 returns c = let s = c .before .before .before in let o = s .pre .ops in (sym (count-0 (s .args .s) (s .args .interval) (s .args .a) (c .before .if1 .taken)), omega arith)
 
+add-result-2 : tie.Need-add-result-2
+add-result-2 c = omega arith
+
 returns-2 : tie.Need-returns-2
 returns-2 c = let s = c .before .before .before .before in (sym (count-5 (s .args .s) (s .args .interval) (s .args .a) (c .if2 .taken)), omega arith)
 
@@ -24,5 +27,6 @@ line-count-spec =
     (tie.spec
     add-result
     returns
+    add-result-2
     returns-2
     returns-3)
