@@ -1,4 +1,5 @@
--- A task for a sheet in range is ready for the search: its numbers are within its arrays, and every plan keeps its lags. Assumes nothing.
+-- A task for a sheet in range is ready for the search: its numbers are within its arrays, and every plan keeps its lags.
+-- Assumes nothing.
 use mathlib.Core.Path.{_≡_, sym, subst, _∙_}
 use mathlib.Core.List.{List}
 use Prim.Native.Nat.{ℕ, _+_, _*_, _<_, _≤_}

@@ -1,5 +1,6 @@
-// Tests of a plan's rules for one and for two operations: starts, instances, rivals, slots. Any operation number may be asked about.
-// What an operation asks of its own start is decided in starts.rt alone, of its own instance in `instance_allowed` alone.
+// Tests of a plan's rules for one and for two operations: starts, instances, rivals, slots. Any operation number may be
+// asked about. Each rule is decided here alone: an operation's own start in starts.rt, its own instance in
+// `instance_allowed`, two rivals on one instance in `overlap`.
 ghost use mathlib.Core.Path.{_≡_};
 ghost use Rattle.laws.specs.Says.{Says};
 ghost use Rattle.sheet.specs.Sheet.{opAt, typeOf};
@@ -59,7 +60,8 @@ pub fn rivals(sheet: Sheet, i: usize, j: usize) -> bool
     0 < instances_of(sheet, i)
 }
 
-// The slot of a start: its remainder by the interval. There are no slots at interval 0, where the remainder is the start itself.
+// The slot of a start: its remainder by the interval. There are no slots at interval 0, where the remainder is the start
+// itself.
 pub fn slot_of(interval: usize, start: usize) -> usize
     ensures { λ r. ⌜ r ≡ slot interval start ⌝ }
 {

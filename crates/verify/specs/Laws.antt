@@ -1,4 +1,5 @@
--- At most one answer of the check fits; a yes is a plan, a plan gets a yes, and so does what the plan at an interval gives. Assumes nothing.
+-- At most one answer of the check fits; a yes is a plan, a plan gets a yes, and so does what the plan at an interval gives.
+-- Assumes nothing.
 use mathlib.Core.Path.{_≡_, refl, sym, ap, ap₂, _∙_}
 use mathlib.Core.Bool.{Bool, true, false}
 use Prim.Native.Nat.{ℕ}

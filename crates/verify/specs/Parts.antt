@@ -1,5 +1,5 @@
--- The rules of a plan, each for all operations, edges or pairs: what the parts of the check decide, and that together they are a plan.
--- Assumes nothing.
+-- The rules of a plan, each for all operations, edges or pairs: what the parts of the check decide, and that together they
+-- are a plan. Assumes nothing.
 use mathlib.Core.Path.{_≡_, sym, subst}
 use Prim.Native.Nat.{ℕ, _<_}
 use native.Mathlib.Omega.{arith}

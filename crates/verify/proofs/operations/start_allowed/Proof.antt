@@ -1,5 +1,5 @@
--- `verify::operations::start_allowed` meets its contract: the row has the start's flag, and past the row no start is in the horizon.
--- Assumes nothing.
+-- `verify::operations::start_allowed` meets its contract: the row has the start's flag, and past the row no start is in
+-- the horizon. Assumes nothing.
 use native.Mathlib.Omega.{arith}
 use borrow.Author.Needs.{needs}
 use Rattle.laws.specs.Says.{no-says}
