@@ -7,3 +7,4 @@ pub mod Small
 pub mod Places
 pub mod Bounds
 pub mod Reading
+pub mod Entries

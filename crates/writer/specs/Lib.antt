@@ -2,3 +2,4 @@
 pub mod Wrote
 -- ---- laws
 pub mod Lines
+pub mod Entries
