@@ -2,43 +2,32 @@
 use libc::STDIN_FILENO;
 use libc::STDOUT_FILENO;
 
-// The most bytes of standard input that are looked at.
-const INPUT: usize = 262144;
-
-// Enough for whatever leastplan prints.
-const ROOM: usize = 8192;
-
-fn print_front(out: &[u8], n: usize) {
-    if n <= out.len() {
-        io::write_all(STDOUT_FILENO, &out[..n]);
+// Answers the piece at `at`, and gives the place after it; 0 where there is none.
+fn answer(input: &[u8], at: usize) -> usize {
+    let piece = test_frames::next(input, at);
+    if !piece.ok {
+        return 0;
     }
-}
-
-fn answer(bytes: &[u8]) {
-    let mut out = [0u8; ROOM];
-    let written = report::report(bytes, &mut out);
+    let start = piece.start;
+    let end = piece.end;
     io::write_all(STDOUT_FILENO, b"--\n");
-    print_front(&out, written.count);
+    printing::print_report(&input[start..end]);
+    end
 }
 
 fn answer_all(input: &[u8]) {
-    let mut at = 0;
-    let mut i = 0;
-    while i < INPUT {
-        let piece = test_frames::next(input, at);
-        if !piece.ok {
+    let mut at: usize = 0;
+    while at < input.len() {
+        let next = answer(input, at);
+        if next <= at {
             return;
         }
-        let start = piece.start;
-        let end = piece.end;
-        answer(&input[start..end]);
-        at = end;
-        i += 1;
+        at = next;
     }
 }
 
 fn main() {
-    let mut input = [0u8; INPUT];
+    let mut input = io::large_buffer();
     let n = io::read_full(STDIN_FILENO, &mut input);
     answer_all(&input[..n]);
 }

@@ -1,4 +1,5 @@
-// Reads each piece of standard input as a sheet and prints its answer; of an accepted sheet also the text written back, and what the writer answers in a buffer one byte too short.
+// Reads each piece of standard input as a sheet and prints its answer; of an accepted sheet also the text written back, and what the writer answers
+// in a buffer one byte too short.
 use libc::STDIN_FILENO;
 use libc::STDOUT_FILENO;
 use sheet::Sheet;
@@ -40,7 +41,7 @@ fn write_back(sheet: Sheet) {
     }
 }
 
-fn answer(bytes: &[u8]) {
+fn answer_sheet(bytes: &[u8]) {
     let read = reader::read(bytes);
     print_line(b"--\nanswer=", read.answer);
     if read.answer == 0 {
@@ -49,19 +50,26 @@ fn answer(bytes: &[u8]) {
     }
 }
 
+// Answers the piece at `at`, and gives the place after it; 0 where there is none.
+fn answer(input: &[u8], at: usize) -> usize {
+    let piece = test_frames::next(input, at);
+    if !piece.ok {
+        return 0;
+    }
+    let start = piece.start;
+    let end = piece.end;
+    answer_sheet(&input[start..end]);
+    end
+}
+
 fn answer_all(input: &[u8]) {
-    let mut at = 0;
-    let mut i = 0;
-    while i < INPUT {
-        let piece = test_frames::next(input, at);
-        if !piece.ok {
+    let mut at: usize = 0;
+    while at < input.len() {
+        let next = answer(input, at);
+        if next <= at {
             return;
         }
-        let start = piece.start;
-        let end = piece.end;
-        answer(&input[start..end]);
-        at = end;
-        i += 1;
+        at = next;
     }
 }
 

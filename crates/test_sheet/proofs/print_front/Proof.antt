@@ -4,23 +4,16 @@ use borrow.Author.Needs.{needs}
 use lib.Seq.{length-take-le}
 use Rattle.test_sheet.proofs.print_front.Statement.{statement}
 use Rattle.test_sheet.proofs.print_front.Tie as tie
-use Rattle.test_sheet.proofs.print_front.Reads as reads
-use Rattle.test_sheet.proofs.print_front.Lts as lts
-use Rattle.io.proofs.write_all.Reads as write-all-reads
 
--- src/main.rt:21:38
 slice-aggregate-write-all : tie.Need-slice-aggregate-write-all
 slice-aggregate-write-all c = search (needs, length-take-le)
 
--- src/main.rt:21:9
 write-all-requires : tie.Need-write-all-requires
 write-all-requires c κs = search needs
 
--- src/main.rt:19:1
 returns : tie.Need-returns
 returns c = search needs
 
--- src/main.rt:19:1
 returns-2 : tie.Need-returns-2
 returns-2 c = search needs
 
