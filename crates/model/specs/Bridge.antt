@@ -7,39 +7,31 @@ use mathlib.Core.List.{List}
 use Prim.Native.Nat.{ℕ, _+_, _%_, _<_, _≤_}
 use native.Mathlib.Omega.{arith}
 use native.Mathlib.Decide.{decLt}
-use lib.IntN.{ℤ, pos}
-use Rattle.laws.specs.Entry.{vec, ZeroFrom}
-use Rattle.laws.specs.Z.{true-false}
+use lib.IntN.{ℤ}
+use Rattle.sizes.specs.Sizes.{mostStarts}
+use Rattle.laws.specs.Entry.{vec}
 use Rattle.laws.specs.Count.{tally}
-use Rattle.laws.specs.Says.{Says}
+use Rattle.laws.specs.Says.{says-true}
 use Rattle.sheet.specs.declared.Sheet.{Sheet}
-use Rattle.sheet.specs.Sheet.{InRange, Interval, Limited, typeOf, typeAt, opAt, graphOf}
+use Rattle.sheet.specs.Sheet.{InRange, Interval, typeOf, typeAt, opAt}
 use Rattle.sheet.specs.Facts.{horizon-most, ops-most}
-use Rattle.plan.specs.Rules.{Plan, StartAllowed, InstanceAllowed, Rivals}
-use Rattle.plan.specs.Order.{Less, Same, Precedes}
+use Rattle.plan.specs.Rules.{Plan, StartAllowed, Rivals}
+use Rattle.plan.specs.Order.{Less, Same}
 use Rattle.plan.specs.Answers.{First}
 use Rattle.plan.specs.Total.{same-sym, same-trans}
 use Rattle.plan.specs.Local.{plan-local}
 use Rattle.plan.specs.Places.{tally-places}
-use Rattle.domain.specs.Domain.{has, rowOf, In, Before, FirstIn}
+use Rattle.domain.specs.Domain.{In, Before, FirstIn}
 use Rattle.task.specs.declared.Task.{Task}
 use Rattle.task.specs.Plan as task
 use Rattle.task.specs.PlanLaws as laws
 use Rattle.instances.specs.Lowest.{lowest-first}
-use Rattle.instances.specs.Seats.{Seats, Meet}
+use Rattle.instances.specs.Seats.{Seats}
 use Rattle.instances.specs.SeatLaws.{Rival, seats-lowest, seats-below, seats-apart, seats-zero}
+use Rattle.arrays.specs.Cut.{Cut}
 use Rattle.model.specs.Domain.{DomainFor}
 use Rattle.model.specs.Task.{TaskFor}
 use Rattle.model.specs.Ready.{op-in, task-ok, task-meets, meets-task}
-
-says-true : {P : Type 0} (r : Bool) → Says P r → P → r ≡ true
-says-true true s p = refl
-says-true false s p = absurd (s .no refl p)
-
--- the numbers of a plan's operations alone
-pub record Cut (n : ℕ) (x y : List ℕ) : Type 0 where
-  pub front : Same n (vec x) (vec y)
-  pub back : ZeroFrom n y
 
 module _ (s : Sheet) (L : ℕ) (table : List (List ℤ)) (p : Task) (ok : InRange s) (iv : Interval s L) (f : TaskFor s L table p) where
   op-of : {i : ℕ} → i < s .«op_count» → i < p .ops
@@ -135,7 +127,7 @@ module _ (s : Sheet) (L : ℕ) (table : List (List ℤ)) (p : Task) (ok : InRang
       allowed = λ i h. says-true _ (d .row i (omega (arith, op-in f h, ops-most ok)) .start (t i) (small i h)) (a i (op-in f h));
     }
       where
-        small : (i : ℕ) → i < p .ops → t i < 128
+        small : (i : ℕ) → i < p .ops → t i < mostStarts
         small i h = omega (arith, a i (op-in f h) .inHorizon, horizon-most ok)
 
     pub of-domain : (t : ℕ → ℕ) → In (p .ops) dom t → (i : ℕ) → i < s .«op_count» → StartAllowed s L i (t i)

@@ -2,3 +2,4 @@
 pub mod Starts
 -- ---- laws
 pub mod Slots
+pub mod Totals

@@ -1,5 +1,4 @@
 // What an operation asks of its own start, whatever the others do.
-ghost use mathlib.Core.Path.{_≡_};
 ghost use Rattle.laws.specs.Says.{Says};
 ghost use Rattle.rules.specs.Starts.{InHorizon, RowFor};
 use sheet::Sheet;

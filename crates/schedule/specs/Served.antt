@@ -22,7 +22,8 @@ use Rattle.task.specs.Plan.{PlanOf}
 use Rattle.instances.specs.Seats.{Seats}
 use Rattle.model.specs.Domain.{DomainFor}
 use Rattle.model.specs.Task.{TaskFor}
-use Rattle.model.specs.Bridge.{Cut, none-found, first-found}
+use Rattle.arrays.specs.Cut.{Cut}
+use Rattle.model.specs.Bridge.{none-found, first-found}
 
 -- what question 6 is put after
 pub record Ready (s : Sheet) (L : ℕ) : Type 0 where

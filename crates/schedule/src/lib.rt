@@ -1,28 +1,13 @@
 // The services on plans: the plan at an interval and the least interval.
 ghost use mathlib.Core.Path.{_≡_};
-ghost use Prim.Native.Nat.{ℕ, _≤_, _<_};
-ghost use Rattle.sizes.specs.Sizes.{mostOperations};
+ghost use Rattle.sheet.specs.Sheet.{graphOf};
 ghost use Rattle.plan.specs.Answers.{PlanAt, LeastInterval, IfPlan, refused};
-ghost use Rattle.model.specs.Bridge.{Cut};
 ghost use Rattle.schedule.specs.Served.{Ready};
+use dependence::Graph;
 use plan::IntervalAnswer;
 use plan::PlanAnswer;
 use sheet::Sheet;
 use sizes::MOST_OPERATIONS;
-
-// The first n numbers, and 0 past them.
-fn cut(n: usize, xs: [usize; MOST_OPERATIONS]) -> [usize; MOST_OPERATIONS]
-    requires { ⌜ n ≤ mostOperations ⌝ }
-    ensures { λ r. ⌜ Cut n xs r ⌝ }
-{
-    let mut out = [0usize; MOST_OPERATIONS];
-    let mut i: usize = 0;
-    while i < n {
-        out[i] = xs[i];
-        i += 1;
-    }
-    out
-}
 
 // A refusal: its number, and 0 for every other number.
 fn refusal(answer: usize) -> PlanAnswer
@@ -37,22 +22,21 @@ fn refusal(answer: usize) -> PlanAnswer
     }
 }
 
-// Question 6: the first plan, or that there is none.
-fn first_plan(sheet: Sheet, interval: usize) -> PlanAnswer
-    requires { ⌜ Ready sheet interval ⌝ }
+// Question 6: the first plan, or that there is none. The graph is the sheet's.
+fn first_plan(sheet: Sheet, graph: Graph, interval: usize) -> PlanAnswer
+    requires { ⌜ Ready sheet interval × (graph ≡ graphOf sheet) ⌝ }
     ensures { λ r. ⌜ IfPlan sheet interval r ⌝ }
 {
-    let graph = sheet::graph_of(sheet);
     let lags = dependence::lags(graph, interval);
-    let task = model::build::task_of(sheet, interval, lags);
+    let task = model::build::task_of(sheet, graph, interval, lags);
     let domain = model::allowed::allowed_domain(sheet, interval);
     let found = search::first_plan(task, domain);
     if found.yes {
         let n = sheet.op_count;
         let x = found.starts;
-        let starts = cut(n, x);
+        let starts = arrays::cut(n, x);
         let u = instances::instances(task, starts);
-        let instances = cut(n, u);
+        let instances = arrays::cut(n, u);
         return PlanAnswer {
             answer: 0,
             starts,
@@ -84,7 +68,7 @@ pub fn plan_at(sheet: Sheet, interval: usize) -> PlanAnswer
             loop_edges,
         };
     }
-    first_plan(sheet, interval)
+    first_plan(sheet, graph, interval)
 }
 
 // The least interval from 1 to the cap that has a plan, or why there is none: the sheet's refusal, 7.

@@ -1,10 +1,10 @@
 -- At most one answer of the check fits; a yes is a plan, a plan gets a yes, and so does what the plan at an interval gives.
 -- Assumes nothing.
-use mathlib.Core.Path.{_≡_, refl, sym, ap, ap₂, _∙_}
-use mathlib.Core.Bool.{Bool, true, false}
+use mathlib.Core.Path.{_≡_, sym, ap, ap₂, _∙_}
+use mathlib.Core.Bool.{Bool, true}
 use Prim.Native.Nat.{ℕ}
 use Rattle.laws.specs.Entry.{vec}
-use Rattle.laws.specs.Says.{Says}
+use Rattle.laws.specs.Says.{says-true, says-one}
 use Rattle.laws.specs.Z.{true-false}
 use Rattle.sheet.specs.declared.Sheet.{Sheet}
 use Rattle.sheet.specs.Questions.{at-no, at-yes, One, at-interval-one, Accepted}
@@ -14,17 +14,6 @@ use Rattle.plan.specs.Answers.{PlanAt}
 use Rattle.plan.specs.Exactly.{accepted-given, given-first}
 use Rattle.verify.specs.declared.Checked.{Checked}
 use Rattle.verify.specs.Check.{checkRefused, Decided, CheckedAt}
-
--- ---- tests
-
-says-true : {P : Type 0} (a : Bool) → Says P a → P → a ≡ true
-says-true true p h = refl
-says-true false p h = absurd (p .no refl h)
-
-says-one : {P : Type 0} (a b : Bool) → Says P a → Says P b → a ≡ b
-says-one true b p q = sym (says-true b q (p .yes refl))
-says-one false true p q = absurd (p .no refl (q .yes refl))
-says-one false false p q = refl
 
 -- ---- the answers
 

@@ -4,15 +4,13 @@ use mathlib.Core.Path.{_≡_, sym, subst}
 use Prim.Native.Nat.{ℕ, _<_}
 use native.Mathlib.Omega.{arith}
 use native.Mathlib.Decide.{decLt}
-use lib.IntN.{ℤ, pos, negsuc, _+ℤ_}
+use lib.IntN.{ℤ, pos, _+ℤ_}
 use lib.Signed.{_≤ℤ_, leZ}
 use Rattle.sizes.specs.Sizes.{mostStarts}
 use Rattle.laws.specs.Z.{zed, leZ-true, leZ-false}
 use Rattle.laws.specs.Says.{Says}
 use Rattle.dependence.specs.declared.Graph.{Graph}
-use Rattle.dependence.specs.Answer.{TotalAnswer, total-three, total-four, total-found}
-use Rattle.dependence.specs.Graph as graphs
-use Rattle.dependence.specs.Graph.{edgeAt, total}
+use Rattle.dependence.specs.Graph.{edgeAt}
 use Rattle.dependence.specs.Rules.{Meets}
 use Rattle.sheet.specs.declared.Sheet.{Sheet}
 use Rattle.sheet.specs.Sheet.{InRange, typeAt, graphOf}
@@ -29,14 +27,9 @@ EachInstance s u = (i : ℕ) → i < s .«op_count» → InstanceAllowed s i (u 
 abbrev pub Low : ℕ → (ℕ → ℕ) → Type 0
 Low n t = (i : ℕ) → i < n → t i < mostStarts
 
--- the range of a total
-pub record Small (z : ℤ) : Type 0 where
-  pub low : negsuc 599 ≤ℤ z
-  pub high : z ≤ℤ pos 600
-
--- the dependence of edge k is kept
-abbrev pub EdgeMet : Graph → ℕ → (ℕ → ℕ) → ℕ → Type 0
-EdgeMet g L t k = (pos (t (edgeAt g k .from)) +ℤ total g L k) ≤ℤ pos (t (edgeAt g k .to))
+-- the starts t keep the dependence of edge k, whose total is z
+abbrev pub EdgeMet : Graph → ℤ → (ℕ → ℕ) → ℕ → Type 0
+EdgeMet g z t k = (pos (t (edgeAt g k .from)) +ℤ z) ≤ℤ pos (t (edgeAt g k .to))
 
 -- two rivals with the same instance overlap
 pub record Clash (s : Sheet) (L : ℕ) (t u : ℕ → ℕ) (i j : ℕ) : Type 0 where
@@ -56,16 +49,6 @@ AllApart s L t u = (i : ℕ) → i < s .«op_count» → Apart s L t u i
 -- a signed test
 pub le-says : (a b : ℤ) → Says (a ≤ℤ b) (leZ a b)
 le-says a b = record { yes = leZ-true a b; no = λ e h. omega (arith, zed, h, leZ-false a b e) }
-
-module _ {g : Graph} {L k : ℕ} (ok : graphs.InRange g) (iv : graphs.Interval L) (h : k < g .«edge_count») where
-  -- the total that the dependence part gives
-  pub total-is : {a : ℕ} {z : ℤ} → TotalAnswer g L k a z → z ≡ total g L k
-  total-is (total-three _ _ n) = absurd (n (ok, h))
-  total-is (total-four _ _ _ _ n) = absurd (n iv)
-  total-is (total-found _ _ _ _ e) = e
-
-  pub total-small : Small (total g L k)
-  total-small = let b = graphs.total-ok ok iv k h in record { low = graphs.total-low b; high = graphs.total-high b }
 
 pub starts-low : {s : Sheet} {L : ℕ} {t : ℕ → ℕ} → InRange s → EachStart s L t → Low (s .«op_count») t
 starts-low ok a i h = omega (arith, a i h .inHorizon, horizon-most ok)

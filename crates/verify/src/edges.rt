@@ -1,13 +1,14 @@
 // The dependences.
 ghost use Prim.Native.Nat.{_<_};
-ghost use lib.IntN.{pos, negsuc, _+ℤ_};
+ghost use lib.IntN.{pos, _+ℤ_};
 ghost use lib.Signed.{_≤ℤ_};
 ghost use Rattle.sizes.specs.Sizes.{mostStarts};
 ghost use Rattle.laws.specs.Entry.{vec};
 ghost use Rattle.laws.specs.Says.{Says};
 ghost use Rattle.dependence.specs.Graph.{InRange, Interval};
 ghost use Rattle.dependence.specs.Rules.{Meets};
-ghost use Rattle.verify.specs.Parts.{Low, Small, EdgeMet};
+ghost use Rattle.rules.specs.Totals.{Small};
+ghost use Rattle.verify.specs.Parts.{Low, EdgeMet};
 use dependence::Graph;
 use sizes::MOST_OPERATIONS;
 
@@ -19,16 +20,15 @@ fn met(from: usize, total: i32, to: usize) -> bool
     from as i32 + total <= to as i32
 }
 
-// Whether the starts keep the dependence of edge k.
-fn edge_met(graph: Graph, interval: usize, starts: [usize; MOST_OPERATIONS], k: usize) -> bool
-    requires { ⌜ InRange graph × Interval interval × Low (graph .ops) (vec starts) × (k < graph .«edge_count») ⌝ }
-    ensures { λ r. ⌜ Says (EdgeMet graph interval (vec starts) k) r ⌝ }
+// Whether the starts keep the dependence of edge k, with its total.
+fn edge_met(graph: Graph, total: i32, starts: [usize; MOST_OPERATIONS], k: usize) -> bool
+    requires { ⌜ InRange graph × Low (graph .ops) (vec starts) × (k < graph .«edge_count») × Small total ⌝ }
+    ensures { λ r. ⌜ Says (EdgeMet graph total (vec starts) k) r ⌝ }
 {
     let e = graph.edges[k];
-    let total = dependence::total(graph, interval, k);
     let i = e.from;
     let j = e.to;
-    met(starts[i], total.value, starts[j])
+    met(starts[i], total, starts[j])
 }
 
 // Whether the starts keep every dependence.
@@ -36,9 +36,11 @@ pub fn all_met(graph: Graph, interval: usize, starts: [usize; MOST_OPERATIONS]) 
     requires { ⌜ InRange graph × Interval interval × Low (graph .ops) (vec starts) ⌝ }
     ensures { λ r. ⌜ Says (Meets graph interval (λ i. pos (vec starts i))) r ⌝ }
 {
+    let totals = dependence::totals(graph, interval);
+    let total = totals.values;
     let n = graph.edge_count;
     for k in 0..n {
-        if !edge_met(graph, interval, starts, k) {
+        if !edge_met(graph, total[k], starts, k) {
             return false;
         }
     }

@@ -1,5 +1,5 @@
 // The rule about two operations: rivals with the same instance do not overlap.
-ghost use Prim.Native.Nat.{_≤_, _<_};
+ghost use Prim.Native.Nat.{_<_};
 ghost use Rattle.sizes.specs.Sizes.{mostOperations};
 ghost use Rattle.laws.specs.Entry.{vec};
 ghost use Rattle.laws.specs.Says.{Says};

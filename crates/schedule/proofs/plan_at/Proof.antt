@@ -54,7 +54,7 @@ first-plan-requires : tie.Need-first-plan-requires
 first-plan-requires c κs =
     let b = c .before .before in
     let y = passed (b .before .before) in
-    record { accepted = y; feasible = walk-free _ _ (y .sheet) (y .interval) (walk b) (c .if2 .left) }
+    (record { accepted = y; feasible = walk-free _ _ (y .sheet) (y .interval) (walk b) (c .if2 .left) }, b .before .graph-of .ensures)
 
 returns-3 : tie.Need-returns-3
 returns-3 c =

@@ -1,6 +1,6 @@
 -- `verify::holds` meets its contract: each test is one of the rules, and together they are a plan.
 -- Assumes nothing.
-use mathlib.Core.Path.{_≡_, sym, subst}
+use mathlib.Core.Path.{sym, subst}
 use Prim.Native.Nat.{ℕ}
 use lib.IntN.{pos}
 use borrow.Author.Needs.{needs}

@@ -1,10 +1,10 @@
 -- `model::build::clipped` meets its contract, by the two tests.
 -- Assumes nothing.
 use native.Mathlib.Omega.{arith}
-use lib.IntN.{pos, negsuc}
 use mir.Facts.{sfits-lit}
 use Rattle.laws.specs.Z.{zed, kept, lt-yes, lt-no}
 use borrow.Author.Needs.{needs}
+use Rattle.model.specs.Task.{leastLag, mostLag}
 use Rattle.model.proofs.build.clipped.Statement.{statement}
 use Rattle.model.proofs.build.clipped.Tie as tie
 
@@ -13,17 +13,16 @@ returns c = search needs
 
 returns-2 : tie.Need-returns-2
 returns-2 c = record {
-  low = search needs;
-  high = search needs;
-  under = λ h. omega (arith, zed, lt-yes (sfits-lit {z = pos 128} tt) (c .before .before .fits .lag) (c .if2 .taken));
+  small = search needs;
+  under = λ h. omega (arith, zed, lt-yes (sfits-lit {z = mostLag} tt) (c .before .before .fits .lag) (c .if2 .taken));
 }
 
 returns-3 : tie.Need-returns-3
 returns-3 c =
     let f = c .before .before .fits .lag in
-    let a = lt-no f (sfits-lit {z = negsuc 16383} tt) (c .before .if1 .left) in
-    let b = lt-no (sfits-lit {z = pos 128} tt) f (c .if2 .left) in
-    rw (kept f) (record { low = a; high = b; under = λ h. omega (arith, zed) })
+    let a = lt-no f (sfits-lit {z = leastLag} tt) (c .before .if1 .left) in
+    let b = lt-no (sfits-lit {z = mostLag} tt) f (c .if2 .left) in
+    rw (kept f) (record { small = record { low = a; high = b }; under = λ h. omega (arith, zed) })
 
 pub clipped-spec : {M : Type 1} → statement M
 clipped-spec = tie.close (tie.spec returns returns-2 returns-3)

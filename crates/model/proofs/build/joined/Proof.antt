@@ -1,18 +1,19 @@
--- `model::build::joined` is safe: the ends of each edge are below 24.
+-- `model::build::joined` is safe: the ends of each edge are operations.
 -- Assumes nothing.
 use mathlib.Core.Path.{_≡_}
-use Prim.Native.Nat.{ℕ, _≤_, _<_, _-_}
+use Prim.Native.Nat.{_≤_, _-_}
 use native.Mathlib.Omega.{arith}
 use lib.ListN.{length, length-set}
 use borrow.Author.Needs.{needs}
+use Rattle.model.specs.Task.{pairs}
 use Rattle.model.proofs.build.joined.Statement.{statement}
 use Rattle.model.proofs.build.joined.Tie as tie
 
 abbrev Inv-loop : tie.InvT-loop
-Inv-loop count edges out₀ k₀ out k = (k ≤ count) × (length out ≡ 576)
+Inv-loop count ends out₀ k₀ out k = (k ≤ count) × (length out ≡ pairs)
 
 abbrev μ-loop : tie.MeasureT-loop
-μ-loop count edges out₀ k₀ out k = count - k
+μ-loop count ends out₀ k₀ out k = count - k
 
 loop-holds : tie.Need-loop-holds Inv-loop μ-loop
 loop-holds c = search needs

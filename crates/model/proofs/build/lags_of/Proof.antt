@@ -6,18 +6,19 @@ use native.Mathlib.Omega.{arith}
 use lib.IntN.{pos}
 use lib.ListN.{length, length-set, getD}
 use borrow.Author.Needs.{needs}
+use Rattle.sizes.specs.Sizes.{mostOperations}
 use Rattle.laws.specs.Z.{kept, fits32}
 use Rattle.laws.specs.Store.{store-more}
 use Rattle.laws.specs.Entry.{cell}
-use Rattle.model.specs.Task.{Clipped}
+use Rattle.model.specs.Task.{pairs, Clipped}
 use Rattle.model.proofs.build.lags_of.Statement.{statement}
 use Rattle.model.proofs.build.lags_of.Tie as tie
 
 abbrev Inv-loop : tie.InvT-loop
-Inv-loop interval table lag₀ near₀ k₀ lag near k = (k ≤ 576) × (length lag ≡ 576) × (length near ≡ 576) × ((x : ℕ) → x < k → Clipped (cell table (x / 24) (x % 24)) (getD lag x (pos 0)))
+Inv-loop interval table lag₀ near₀ k₀ lag near k = (k ≤ pairs) × (length lag ≡ pairs) × (length near ≡ pairs) × ((x : ℕ) → x < k → Clipped (cell table (x / mostOperations) (x % mostOperations)) (getD lag x (pos 0)))
 
 abbrev μ-loop : tie.MeasureT-loop
-μ-loop interval table lag₀ near₀ k₀ lag near k = 576 - k
+μ-loop interval table lag₀ near₀ k₀ lag near k = pairs - k
 
 loop-holds : tie.Need-loop-holds Inv-loop μ-loop
 loop-holds c = (omega arith, search needs, search needs, λ k l. absurd (omega arith))
@@ -63,8 +64,8 @@ close-requires c κs =
     let t = c .before .before in
     let a = t .clipped .ensures in
     let b = c .clipped2 .ensures in (
-      rw (kept {z = t .clipped .result} (fits32 (t .clipped .ok))) (record { low = a .low; high = a .high }),
-      rw (kept {z = c .clipped2 .result} (fits32 (c .clipped2 .ok))) (record { low = b .low; high = b .high }),
+      rw (kept {z = t .clipped .result} (fits32 (t .clipped .ok))) (a .small),
+      rw (kept {z = c .clipped2 .result} (fits32 (c .clipped2 .ok))) (b .small),
       t .before .before .before .before .pre,
     )
 
@@ -86,9 +87,9 @@ loop-again c =
       omega (arith, h .loop-test .taken),
       simp length-set (l .loop .inv .1),
       simp length-set (l .loop .inv .2),
-      store-more (λ x z. Clipped (cell w (x / 24) (x % 24)) z) (l .loop .lag) (l .loop .k) _ (pos 0) (omega (arith, l .loop .inv .1, h .loop-test .taken))
+      store-more (λ x z. Clipped (cell w (x / mostOperations) (x % mostOperations)) z) (l .loop .lag) (l .loop .k) _ (pos 0) (omega (arith, l .loop .inv .1, h .loop-test .taken))
           (rw (kept {z = t .clipped .result} (fits32 (t .clipped .ok)))
-          (rw (kept {z = cell w (l .loop .k / 24) (l .loop .k % 24)} (fits32 (t .before .clipped-arg .given))) at (t .clipped .ensures))) (l .loop .inv .3),
+          (rw (kept {z = cell w (l .loop .k / mostOperations) (l .loop .k % mostOperations)} (fits32 (t .before .clipped-arg .given))) at (t .clipped .ensures))) (l .loop .inv .3),
     )
 
 returns : tie.Need-returns Inv-loop μ-loop
@@ -96,11 +97,11 @@ returns c =
     let l = c .before .loop in
     record {
       lags = λ i j h m.
-          let a : (i * 24 + j) / 24 ≡ i = omega arith in
-          let b : (i * 24 + j) % 24 ≡ j = omega arith in
-          let q = l .inv .3 (i * 24 + j) (omega arith) in
-          subst (λ (x : ℕ). Clipped (cell (c .before .before .args .t1) x j) (getD (l .lag) (i * 24 + j) (pos 0))) a
-          (subst (λ (x : ℕ). Clipped (cell (c .before .before .args .t1) ((i * 24 + j) / 24) x) (getD (l .lag) (i * 24 + j) (pos 0))) b q);
+          let a : (i * mostOperations + j) / mostOperations ≡ i = omega arith in
+          let b : (i * mostOperations + j) % mostOperations ≡ j = omega arith in
+          let q = l .inv .3 (i * mostOperations + j) (omega arith) in
+          subst (λ (x : ℕ). Clipped (cell (c .before .before .args .t1) x j) (getD (l .lag) (i * mostOperations + j) (pos 0))) a
+          (subst (λ (x : ℕ). Clipped (cell (c .before .before .args .t1) ((i * mostOperations + j) / mostOperations) x) (getD (l .lag) (i * mostOperations + j) (pos 0))) b q);
     }
 
 pub lags-of-spec : {M : Type 1} → statement M

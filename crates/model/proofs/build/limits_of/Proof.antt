@@ -1,24 +1,25 @@
 -- `model::build::limits_of` meets its contract: each type passed has its instances, and the others have 0.
 -- Assumes nothing.
-use mathlib.Core.Path.{_≡_, refl, sym, _∙_}
+use mathlib.Core.Path.{_≡_, refl, _∙_}
 use Prim.Native.Nat.{ℕ, _≤_, _<_, _-_}
 use native.Mathlib.Omega.{arith}
 use lib.ListN.{length, length-set, getD}
 use lib.Seq.{getD-set-other}
 use borrow.Author.Needs.{needs}
+use Rattle.sizes.specs.Sizes.{mostTypes}
 use Rattle.laws.specs.Store.{store-more, all-zero}
 use Rattle.sheet.specs.Sheet.{typeAt}
 use Rattle.model.proofs.build.limits_of.Statement.{statement}
 use Rattle.model.proofs.build.limits_of.Tie as tie
 
 abbrev Inv-loop : tie.InvT-loop
-Inv-loop sheet n limits₀ r₀ limits r = (r ≤ n) × (length limits ≡ 8) × ((k : ℕ) → k < r → getD limits k 0 ≡ typeAt sheet k .instances) × ((k : ℕ) → r ≤ k → getD limits k 0 ≡ 0)
+Inv-loop sheet n limits₀ r₀ limits r = (r ≤ n) × (length limits ≡ mostTypes) × ((k : ℕ) → k < r → getD limits k 0 ≡ typeAt sheet k .instances) × ((k : ℕ) → r ≤ k → getD limits k 0 ≡ 0)
 
 abbrev μ-loop : tie.MeasureT-loop
 μ-loop sheet n limits₀ r₀ limits r = n - r
 
 loop-holds : tie.Need-loop-holds Inv-loop μ-loop
-loop-holds c = (omega arith, search needs, (λ k l. absurd (omega arith)), λ k l. all-zero 8 k)
+loop-holds c = (omega arith, search needs, (λ k l. absurd (omega arith)), λ k l. all-zero mostTypes k)
 
 mul-t : tie.Need-mul-t Inv-loop μ-loop
 mul-t c = search needs

@@ -5,13 +5,14 @@ use Prim.Native.Nat.{ℕ, _≤_, _<_, _-_}
 use native.Mathlib.Omega.{arith}
 use lib.ListN.{length, length-set, getD}
 use borrow.Author.Needs.{needs}
+use Rattle.sizes.specs.Sizes.{mostOperations}
 use Rattle.laws.specs.Store.{store-more}
 use Rattle.sheet.specs.Sheet.{opAt}
 use Rattle.model.proofs.build.types_of.Statement.{statement}
 use Rattle.model.proofs.build.types_of.Tie as tie
 
 abbrev Inv-loop : tie.InvT-loop
-Inv-loop sheet n resource₀ i₀ resource i = (i ≤ n) × (length resource ≡ 24) × ((k : ℕ) → k < i → getD resource k 0 ≡ opAt sheet k .resource)
+Inv-loop sheet n resource₀ i₀ resource i = (i ≤ n) × (length resource ≡ mostOperations) × ((k : ℕ) → k < i → getD resource k 0 ≡ opAt sheet k .resource)
 
 abbrev μ-loop : tie.MeasureT-loop
 μ-loop sheet n resource₀ i₀ resource i = n - i
