@@ -2,11 +2,11 @@
 // cell.
 ghost use Rattle.laws.specs.Says.{Says};
 ghost use Rattle.dependence.specs.Graph.{InRange};
-ghost use Rattle.dependence.specs.Answer.{TotalAnswer, StartsAnswer, WalkAnswer, BoundAnswer, TableAnswer, Separations, Lags};
+ghost use Rattle.dependence.specs.Answer.{TotalsAnswer, StartsAnswer, WalkAnswer, BoundAnswer, TableAnswer, Separations, Lags};
 ghost use Rattle.bench_dependence.specs.Cells.{CellAt, CellOf};
 use dependence::BadWalk;
 use dependence::Bound;
-use dependence::EdgeTotal;
+use dependence::EdgeTotals;
 use dependence::Graph;
 use dependence::Starts;
 use sizes::MOST_OPERATIONS;
@@ -25,10 +25,10 @@ pub extern "C" fn dependence_in_range(graph: Graph) -> bool
 }
 
 #[no_mangle]
-pub extern "C" fn dependence_total(graph: Graph, interval: usize, k: usize) -> EdgeTotal
-    ensures { λ r. ⌜ TotalAnswer graph interval k (r .answer) (r .value) ⌝ }
+pub extern "C" fn dependence_totals(graph: Graph, interval: usize) -> EdgeTotals
+    ensures { λ r. ⌜ TotalsAnswer graph interval (r .answer) (r .values) ⌝ }
 {
-    dependence::total(graph, interval, k)
+    dependence::totals(graph, interval)
 }
 
 #[no_mangle]

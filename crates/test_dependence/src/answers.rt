@@ -3,39 +3,49 @@
 use crate::print;
 use dependence::Graph;
 use sheet::Sheet;
+use sizes::MOST_EDGES;
 use sizes::MOST_OPERATIONS;
 
-// Intervals out of range at both ends, and some within.
-const INTERVALS: [usize; 9] = [0, 1, 2, 3, 4, 5, 6, 64, 65];
+const HOW_MANY: usize = 9;
 
-fn total(graph: Graph, interval: usize, k: usize) {
-    let t = dependence::total(graph, interval, k);
-    print::number(t.answer);
-    print::text(b",");
-    print::signed(t.value);
+// Intervals out of range at both ends, and some within.
+const INTERVALS: [usize; HOW_MANY] = [0, 1, 2, 3, 4, 5, 6, 64, 65];
+
+fn total(answer: usize, value: i32) {
+    test_print::number(answer);
+    test_print::text(b",");
+    print::signed(value);
 }
 
-// The totals of every edge and of the number past the last. The sheet's cap plays no part in them.
+// The answer of a graph with an edge too many, and its first total.
+fn too_many(graph: Graph, interval: usize) {
+    let mut over = graph;
+    over.edge_count = MOST_EDGES + 1;
+    let t = dependence::totals(over, interval);
+    let values = t.values;
+    total(t.answer, values[0]);
+}
+
+// The answer and the total of each edge. The sheet's cap plays no part in them.
 fn totals(graph: Graph, interval: usize) {
-    print::text(b"totals=");
-    let count = graph.edge_count;
-    let mut k: usize = 0;
-    while k < count {
-        total(graph, interval, k);
-        print::text(b",");
-        k += 1;
+    test_print::text(b"totals=");
+    let t = dependence::totals(graph, interval);
+    let values = t.values;
+    for k in 0..MOST_EDGES {
+        if k < graph.edge_count {
+            total(t.answer, values[k]);
+            test_print::text(b",");
+        }
     }
-    total(graph, interval, count);
-    print::text(b"\n");
+    too_many(graph, interval);
+    test_print::text(b"\n");
 }
 
 fn rows(key: &[u8], table: [[i32; MOST_OPERATIONS]; MOST_OPERATIONS], count: usize) {
-    let mut i: usize = 0;
-    while i < MOST_OPERATIONS {
+    for i in 0..MOST_OPERATIONS {
         if i < count {
             print::row(key, table[i], count);
         }
-        i += 1;
     }
 }
 
@@ -51,7 +61,7 @@ fn starts(sheet: Sheet, interval: usize) {
 }
 
 fn at_interval(sheet: Sheet, interval: usize) {
-    print::line(b"interval=", interval);
+    test_print::line(b"interval=", interval);
     let graph = sheet::graph_of(sheet);
     totals(graph, interval);
     let w = timing::bad_walk(sheet, interval);
@@ -69,24 +79,22 @@ fn at_interval(sheet: Sheet, interval: usize) {
 }
 
 fn all_intervals(sheet: Sheet) {
-    let mut i: usize = 0;
-    while i < 9 {
+    for i in 0..HOW_MANY {
         at_interval(sheet, INTERVALS[i]);
-        i += 1;
     }
 }
 
 fn bounds(sheet: Sheet) {
     let recurrence = timing::recurrence_bound(sheet);
-    print::pair(b"recurrence=", recurrence.answer, recurrence.value);
+    test_print::pair(b"recurrence=", recurrence.answer, recurrence.value);
     let resource = plan::resource_bound(sheet);
-    print::pair(b"resource=", resource.answer, resource.value);
+    test_print::pair(b"resource=", resource.answer, resource.value);
 }
 
 // The answer of reading the sheet and those about what was read: a refused sheet is all 0, and so out of range.
 pub fn sheet(bytes: &[u8]) {
     let read = reader::read(bytes);
-    print::line(b"answer=", read.answer);
+    test_print::line(b"answer=", read.answer);
     let s = read.sheet;
     bounds(s);
     all_intervals(s);

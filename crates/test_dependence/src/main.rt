@@ -13,7 +13,7 @@ fn one(input: &[u8], at: usize, number: usize) -> usize {
     }
     let start = frame.start;
     let end = frame.end;
-    print::line(b"piece=", number);
+    test_print::line(b"piece=", number);
     answers::sheet(&input[start..end]);
     end
 }
