@@ -1,4 +1,5 @@
-// Prints on standard output what leastplan prints for the bytes of a sheet. The program and its test call the one function.
+// Prints on standard output what leastplan prints for the bytes of a sheet. The program and its test call the one
+// function.
 // No contract can say what is written to a file; what the bytes are is `report::report`.
 use libc::STDOUT_FILENO;
 use report::ROOM;

@@ -15,8 +15,8 @@ abbrev pub andThen : {A B : Type 0} → Found A → (A → List ℕ → Found B)
 andThen (found a rest) f = f a rest
 andThen (refused n) f = refused n
 
--- A kind of line: its key, how many numbers it has, the place of the one that may carry a minus, the entry that the numbers stand for,
--- the numbers of an entry, and what an entry answers: 0, or the number of a refusal.
+-- A kind of line: its key, how many numbers it has, the place of the one that may carry a minus, the entry that the
+-- numbers stand for, the numbers of an entry, and what an entry answers: 0, or the number of a refusal.
 pub record Kind (A : Type 0) : Type 0 where
   pub key : List ℕ
   pub count : ℕ

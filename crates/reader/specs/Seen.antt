@@ -1,4 +1,5 @@
--- What the code has at a place of the bytes s, as the definitions see it. The contracts of the reader's inner functions cite these.
+-- What the code has at a place of the bytes s, as the definitions see it. The contracts of the reader's inner functions
+-- cite these.
 use Prim.Native.Nat.{ℕ, _≤_}
 use mathlib.Core.Path.{_≡_}
 use mathlib.Core.List.{List}

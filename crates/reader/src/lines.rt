@@ -1,4 +1,5 @@
-// One line of a sheet: the answer (2, then what its entry answers), its entry and the place after it. With a refusal the others are 0.
+// One line of a sheet: the answer (2, then what its entry answers), its entry and the place after it. With a refusal
+// the others are 0.
 ghost use lib.ListN.{drop};
 ghost use Rattle.reader.specs.Found.{lineFrom};
 ghost use Rattle.reader.specs.Kinds.{numberKind, typeKind, opKind, edgeKind};

@@ -1,4 +1,5 @@
-// The sections of a sheet: a line with a count, then that many lines. The answer, how many entries, the entries with 0 past them, and the place after.
+// The sections of a sheet: a line with a count, then that many lines. The answer, how many entries, the entries with 0
+// past them, and the place after.
 ghost use mathlib.Core.List.{[]};
 ghost use Prim.Native.Nat.{_≤_};
 ghost use lib.ListN.{drop, length};

@@ -10,6 +10,7 @@ use lib.ListN.{length, take, length-take, length-map}
 use Rattle.sizes.specs.Sizes.{mostOperations}
 use Rattle.laws.specs.Entry.{vec}
 use Rattle.text.specs.Sizes.{threeDigits}
+use Rattle.text.specs.Keys as key
 use Rattle.text.specs.Text.{signedText}
 use Rattle.text.specs.Lines.{Line, lineTextOf, linesText}
 use Rattle.text.specs.Bounds.{Within, natural-most, line-most, cons-length, nil-length}
@@ -19,21 +20,33 @@ use Rattle.report.specs.Print.{answerLine, intervalLine, loopLine, atLin
 use Rattle.report.specs.Small.{SmallList, Small}
 use Rattle.report.specs.Places.{detail-0, detail-5, detail-else}
 
--- the line `answer=`: a key of 7 bytes, three digits and the byte after them
+-- a number of three digits and the byte after it
+abbrev numberMost : ℕ
+numberMost = 3 + 1
+
+-- the line `answer=`
 abbrev pub answerMost : ℕ
-answerMost = 7 + 4
+answerMost = length key.answerKey + numberMost
 
 -- that line and `interval=`
-abbrev pub headMost : ℕ
-headMost = answerMost + (9 + 4)
+abbrev headMost : ℕ
+headMost = answerMost + (length key.intervalKey + numberMost)
 
--- with a plan: those, and for each operation `at=` with two numbers
+-- `at=` with two numbers
+abbrev atMost : ℕ
+atMost = length key.atKey + numberMost * 2
+
+-- with a plan: the first two lines, and one for each operation
 abbrev pub planMost : ℕ
-planMost = headMost + (3 + 4 * 2) * mostOperations
+planMost = headMost + atMost * mostOperations
 
--- with a refusal: the first two lines, and at most `loop=` with a number for each operation
+-- `loop=` with a number for each operation
+abbrev loopMost : ℕ
+loopMost = length key.loopKey + numberMost * mostOperations
+
+-- with a refusal: the first two lines, and at most a loop
 abbrev pub refusalMost : ℕ
-refusalMost = headMost + (5 + 4 * mostOperations)
+refusalMost = headMost + loopMost
 
 -- ---- one line
 
@@ -44,11 +57,11 @@ numbers-within : (ks : List ℕ) → SmallList ks → Within 3 (map pos ks)
 numbers-within [] h = tt
 numbers-within (k ∷ ks) h = (number-most k (h 0), numbers-within ks (λ i. h (suc i)))
 
-one-most : (key : List ℕ) (n : ℕ) → n ≤ threeDigits → length (lineTextOf (record { key = key; values = pos n ∷ [] })) ≤ length key + 4
+one-most : (key : List ℕ) (n : ℕ) → n ≤ threeDigits → length (lineTextOf (record { key = key; values = pos n ∷ [] })) ≤ length key + numberMost
 one-most key n h = line-most 3 key (pos n ∷ []) (number-most n h, tt)
 
 each-most : (n : ℕ) (t u : ℕ → ℕ) → ((i : ℕ) → t i ≤ threeDigits) → ((i : ℕ) → u i ≤ threeDigits)
-    → length (linesText (each n (λ i. atLine (t i) (u i)))) ≤ (3 + 4 * 2) * n
+    → length (linesText (each n (λ i. atLine (t i) (u i)))) ≤ atMost * n
 unfolding each
 each-most zero t u f g = let z = nil-length in omega arith
 each-most (suc n) t u f g =
@@ -83,7 +96,7 @@ module _ (s : Sheet) (L : ℕ) (a : PlanAnswer) (small : Small s L a) where
       let o = small .ops in
       omega arith
 
-  loop-most : length (linesText (loopLine (take (a .«loop_length») (a .«loop_edges»)) ∷ [])) ≤ 5 + 4 * mostOperations
+  loop-most : length (linesText (loopLine (take (a .«loop_length») (a .«loop_edges»)) ∷ [])) ≤ loopMost
   loop-most =
       let ks = take (a .«loop_length») (a .«loop_edges») in
       let c = cons-length (loopLine ks) [] in

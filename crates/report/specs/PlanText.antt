@@ -26,7 +26,8 @@ refusedBy a = record { answer = a .answer; count = 0; «loop_length» = a .«loo
 abbrev pub edgeless : Written → PlanWritten
 edgeless w = record { answer = w .answer; count = w .count; «loop_length» = 0; «loop_edges» = zeros }
 
--- the refusal of the plan at that interval, and the buffer as it was; else the plan's text where the whole of it fits, or 9
+-- the refusal of the plan at that interval, and the buffer as it was; else the plan's text where the whole of it fits,
+-- or 9
 pub data PlanText (s : Sheet) (L : ℕ) (old : List ℕ) : PlanWritten → List ℕ → Type 0 where
   refusal : {a : PlanAnswer} → PlanAt s L a → (a .answer ≡ 0 → ⊥) → PlanText s L old (refusedBy a) old
   text : {a : PlanAnswer} → PlanAt s L a → a .answer ≡ 0 → PlanText s L old (edgeless (writtenOf (planText s L a) old)) (bufferOf (planText s L a) old)

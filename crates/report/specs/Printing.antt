@@ -1,4 +1,5 @@
--- Laws of a run: at most one list of lines fits a sheet, and the lines of the intervals go one after the other into a buffer.
+-- Laws of a run: at most one list of lines fits a sheet, and the lines of the intervals go one after the other into a
+-- buffer.
 -- Assumes nothing.
 use mathlib.Core.Path.{_≡_, refl, sym, ap, ap₂, subst, _∙_}
 use mathlib.Core.List.{List, [], _++_, append-assoc}

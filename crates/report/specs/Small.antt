@@ -24,7 +24,8 @@ use Rattle.plan.specs.Exactly.{accepted-given}
 abbrev pub SmallList : List ℕ → Type 0
 SmallList xs = (i : ℕ) → vec xs i ≤ threeDigits
 
--- the numbers that are printed of a plan's answer have at most three digits, and each operation or edge of a loop has its place
+-- the numbers that are printed of a plan's answer have at most three digits, and each operation or edge of a loop has
+-- its place
 pub record Small (s : Sheet) (L : ℕ) (a : PlanAnswer) : Type 0 where
   pub answer : a .answer ≤ threeDigits
   pub interval : L ≤ threeDigits

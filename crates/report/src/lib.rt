@@ -29,8 +29,9 @@ pub struct PlanWritten {
     pub loop_edges: [usize; MOST_OPERATIONS],
 }
 
-// The plan's text at the front of `out` and its count of bytes, or why there is none: the refusal of the plan at that interval, 5 with the first bad
-// closed walk, or 9 where the whole text does not fit. With a refusal `out` stays as it was.
+// The plan's text at the front of `out` and its count of bytes, or why there is none: the refusal of the plan at that
+// interval, 5 with the first bad closed walk, or 9 where the whole text does not fit. With a refusal `out` stays as it
+// was.
 pub fn plan_text(sheet: Sheet, interval: usize, out: &mut [u8]) -> PlanWritten
     ensures { λ r. ⌜ PlanText sheet interval (now (out .entry)) r (now (out .exit)) ⌝ }
 {
@@ -103,7 +104,8 @@ fn print(out: &mut [u8], bytes: &[u8]) -> usize
     run(out, sheet)
 }
 
-// All that leastplan prints, at the front of `out`, and its count of bytes; 9 where it does not fit, and then `out` stays as it was.
+// All that leastplan prints, at the front of `out`, and its count of bytes; 9 where it does not fit, and then `out`
+// stays as it was.
 // `ROOM` bytes are always enough.
 pub fn report(bytes: &[u8], out: &mut [u8]) -> Written
     ensures { λ r. ⌜ Reported (now (bytes .entry)) (now (out .entry)) r (now (out .exit)) ⌝ }

@@ -33,10 +33,8 @@ fn loop_line(edges: [usize; MOST_OPERATIONS], count: usize) -> Line
     ensures { λ r. ⌜ textOf r ≡ lineTextOf (loopLine (take count edges)) ⌝ }
 {
     let mut values = [0i32; MOST_VALUES];
-    let mut i = 0;
-    while i < MOST_VALUES {
+    for i in 0..MOST_VALUES {
         values[i] = edges[i] as i32;
-        i += 1;
     }
     Line {
         key: text::LOOP,
@@ -83,10 +81,8 @@ pub fn text_length(s: Sheet, interval: usize, a: PlanAnswer) -> usize
 {
     let lines = line_count(s, interval, a);
     let mut total = 0;
-    let mut i = 0;
-    while i < lines {
+    for i in 0..lines {
         total += text::line_length(line_at(s, interval, a, i));
-        i += 1;
     }
     total
 }
@@ -99,10 +95,8 @@ pub fn fill(out: &mut [u8], s: Sheet, interval: usize, a: PlanAnswer) -> usize
 {
     let lines = line_count(s, interval, a);
     let mut at = 0;
-    let mut i = 0;
-    while i < lines {
+    for i in 0..lines {
         at += text::put_line(&mut out[at..], line_at(s, interval, a, i));
-        i += 1;
     }
     at
 }

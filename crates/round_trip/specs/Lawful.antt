@@ -1,4 +1,5 @@
--- Each kind of line is lawful: an entry is made again from its numbers, and the numbers of a well-formed line from its entry.
+-- Each kind of line is lawful: an entry is made again from its numbers, and the numbers of a well-formed line from its
+-- entry.
 -- Assumes nothing.
 use mathlib.Core.Path.{_≡_, refl, sym, ap}
 use mathlib.Core.List.{List, [], _∷_}
@@ -17,7 +18,8 @@ use Rattle.reader.specs.Found.{Kind}
 use Rattle.reader.specs.Kinds.{numberKind, typeKind, opKind, edgeKind}
 use Rattle.reader.specs.Steps.{plain-nat}
 
--- entry and numbers of a kind of line give each other back, and an entry that answers 0 has numbers that a line can have
+-- entry and numbers of a kind of line give each other back, and an entry that answers 0 has numbers that a line can
+-- have
 pub record Lawful {A : Type 0} (k : Kind A) : Type 0 where
   pub size : (a : A) → length (k .values a) ≡ k .count
   pub back : (a : A) → k .make (k .values a) ≡ a

@@ -1,5 +1,5 @@
--- A byte string is accepted exactly when it is the text of a sheet in range. Writing what was read yields its own bytes, and a written sheet is read
--- as itself, with 0 past the counts. Every text fits the bytes of a sheet.
+-- A byte string is accepted exactly when it is the text of a sheet in range. Writing what was read yields its own
+-- bytes, and a written sheet is read as itself, with 0 past the counts. Every text fits the bytes of a sheet.
 -- Assumes nothing.
 use mathlib.Core.Path.{_≡_, refl, sym, ap, subst, _∙_}
 use mathlib.Core.List.{List, [], _∷_, _++_, map, append-nil}

@@ -1,4 +1,5 @@
--- The parts of a line, as the code meets them at places of the bytes s: a key, a number and the byte that ends it, numbers in an array.
+-- The parts of a line, as the code meets them at places of the bytes s: a key, a number and the byte that ends it,
+-- numbers in an array.
 -- Assumes nothing.
 use mathlib.Core.Path.{_≡_, refl, sym, ap, subst, _∙_}
 use mathlib.Core.Logic.{inl, inr}

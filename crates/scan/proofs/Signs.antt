@@ -1,4 +1,5 @@
--- A number with its sign, as the code meets it, and what a found one says of its definition. A local holds bits: `ofZ w z` are those of z.
+-- A number with its sign, as the code meets it, and what a found one says of its definition. A local holds bits: `ofZ w
+-- z` are those of z.
 -- Assumes nothing.
 use mathlib.Core.Path.{_≡_, refl, sym, ap, subst, _∙_}
 use mathlib.Core.Logic.{_⊎_, inl, inr}

@@ -45,7 +45,8 @@ enum Number {
     Malformed,
 }
 
-// The rest of a number whose digits so far stand for `first`, from `at`: four digits at most, and none after a leading 0.
+// The rest of a number whose digits so far stand for `first`, from `at`: four digits at most, and none after a leading
+// 0.
 fn more_digits(s: &[u8], at: usize, first: u32) -> Number
     requires { ⌜ (first ≤ 9) × (at ≤ length (now s)) ⌝ }
     ensures { λ r. ⌜ seen (now (s .entry)) r ≡ moreDigits first (drop at (now (s .entry))) ⌝ }
@@ -114,10 +115,8 @@ fn read_signed(s: &[u8], at: usize, negative: bool) -> Whole
 {
     match read_number(s, at) {
         Number::Value(n, next) => {
-            if negative {
-                if n == 0 {
-                    return Whole::None;
-                }
+            if negative && n == 0 {
+                return Whole::None;
             }
             Whole::Int(with_sign(negative, n), next)
         }
@@ -198,7 +197,8 @@ fn after_key(s: &[u8], at: usize, key: &[u8]) -> Place
     Place::After(p)
 }
 
-// A line's numbers and the place after its line feed. Values past the line's numbers are 0; of a line that is not ok everything is 0.
+// A line's numbers and the place after its line feed. Values past the line's numbers are 0; of a line that is not ok
+// everything is 0.
 pub struct Line {
     pub ok: bool,
     pub values: [i32; MOST_NUMBERS],
@@ -237,7 +237,8 @@ fn read_numbers(s: &[u8], start: usize, count: usize, minus: usize) -> Line
     }
 }
 
-// The line at `at` with this key (its equals sign included) and count numbers, of which the one at `minus` may carry a minus.
+// The line at `at` with this key (its equals sign included) and count numbers, of which the one at `minus` may carry a
+// minus.
 // A line has one number to the most: with any other count, as with any malformed line, the answer is not ok.
 pub fn read_line(s: &[u8], at: usize, key: &[u8], count: usize, minus: usize) -> Line
     ensures { λ r. ⌜ seenLine (now (s .entry)) count r ≡ dueLine (now (key .entry)) count minus (drop at (now (s .entry))) ⌝ }

@@ -1,4 +1,5 @@
-// Splits one input into pieces, so that a program can be run on many: each piece stands after a line `bytes=N`, and is the N bytes after that line.
+// Splits one input into pieces, so that a program can be run on many: each piece stands after a line `bytes=N`, and is
+// the N bytes after that line.
 ghost use mathlib.Core.Path.{_≡_};
 ghost use lib.ListN.{drop};
 ghost use Rattle.test_frames.specs.Piece.{pieceOf, seenPiece, FrameFits};
@@ -12,7 +13,8 @@ pub struct Frame {
     pub end: usize,
 }
 
-// The piece whose line stands at `at`. Not ok, and both places 0, where there is no such line or fewer bytes follow it than it says.
+// The piece whose line stands at `at`. Not ok, and both places 0, where there is no such line or fewer bytes follow it
+// than it says.
 pub fn next(s: &[u8], at: usize) -> Frame
     ensures { λ r. ⌜ seenPiece (now (s .entry)) r ≡ pieceOf (drop at (now (s .entry))) ⌝ }
     ensures { λ r. ⌜ FrameFits (now (s .entry)) r ⌝ }

@@ -1,5 +1,5 @@
-// Reads each piece of standard input as a sheet and prints its answer; of an accepted sheet also the text written back, and what the writer answers
-// in a buffer one byte too short.
+// Reads each piece of standard input as a sheet and prints its answer; of an accepted sheet also the text written back,
+// and what the writer answers in a buffer one byte too short.
 use libc::STDIN_FILENO;
 use libc::STDOUT_FILENO;
 use sheet::Sheet;

@@ -1,4 +1,5 @@
--- Laws of lines that go one after the other into a lent buffer, and of the count of their bytes: one set for the lines of a sheet and those of a plan.
+-- Laws of lines that go one after the other into a lent buffer, and of the count of their bytes: one set for the lines
+-- of a sheet and those of a plan.
 -- Assumes nothing.
 use mathlib.Core.Path.{_≡_, refl, sym, ap, _∙_}
 use mathlib.Core.List.{List, [], _∷_, _++_, append-assoc}

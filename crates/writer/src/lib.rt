@@ -105,10 +105,8 @@ fn text_length(s: Sheet) -> usize
 {
     let lines = line_count(s);
     let mut total = 0;
-    let mut i = 0;
-    while i < lines {
+    for i in 0..lines {
         total += text::line_length(line_at(s, i));
-        i += 1;
     }
     total
 }
@@ -120,15 +118,14 @@ fn fill(s: Sheet, out: &mut [u8]) -> usize
 {
     let lines = line_count(s);
     let mut at = 0;
-    let mut i = 0;
-    while i < lines {
+    for i in 0..lines {
         at += text::put_line(&mut out[at..], line_at(s, i));
-        i += 1;
     }
     at
 }
 
-// The sheet's text at the front of `out` and its count of bytes; what the sheet answers, or 9 where the whole text does not fit, and then `out` stays as it was.
+// The sheet's text at the front of `out` and its count of bytes; what the sheet answers, or 9 where the whole text does
+// not fit, and then `out` stays as it was.
 pub fn write(s: Sheet, out: &mut [u8]) -> Written
     ensures { λ r. ⌜ Wrote s (now (out .entry)) r (now (out .exit)) ⌝ }
 {

@@ -1,4 +1,5 @@
--- `report::run` meets its contract. The invariant: the lines of the intervals passed are in the buffer, each at most as long as a refusal.
+-- `report::run` meets its contract. The invariant: the lines of the intervals passed are in the buffer, each at most as
+-- long as a refusal.
 -- From the laws of a run and the bounds of an interval's lines.
 use Prim.Native.Nat.{_+_, _*_, _-_, _≤_, _<_}
 use mathlib.Core.Path.{_≡_}

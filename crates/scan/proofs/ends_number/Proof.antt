@@ -1,4 +1,5 @@
--- `scan::ends_number` meets its contract: the class tells the byte, and the byte that is due is a comma's or a line feed's (`Fields`).
+-- `scan::ends_number` meets its contract: the class tells the byte, and the byte that is due is a comma's or a line
+-- feed's (`Fields`).
 -- Assumes nothing.
 use borrow.Author.Needs.{needs}
 use mathlib.Core.Path.{sym, _∙_}

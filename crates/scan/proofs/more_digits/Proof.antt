@@ -1,5 +1,6 @@
--- `scan::more_digits` meets its contract. The definition goes digit by digit as the loop does, so the invariant says that reading on from here gives
--- what reading on from the start gives, and each way out is one clause of the definition (`Digits`).
+-- `scan::more_digits` meets its contract. The definition goes digit by digit as the loop does, so the invariant says
+-- that reading on from here gives what reading on from the start gives, and each way out is one clause of the
+-- definition (`Digits`).
 -- Assumes nothing.
 use Prim.Native.Nat.{_≤_, _-_}
 use mathlib.Core.Path.{_≡_, refl, sym, _∙_}

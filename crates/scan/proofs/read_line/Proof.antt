@@ -1,4 +1,5 @@
--- `scan::read_line` meets its contract: a count or a place out of bounds is no line, and after its key a line is its numbers.
+-- `scan::read_line` meets its contract: a count or a place out of bounds is no line, and after its key a line is its
+-- numbers.
 -- Assumes nothing.
 use mathlib.Core.Path.{sym, _∙_}
 use native.Mathlib.Omega.{arith}

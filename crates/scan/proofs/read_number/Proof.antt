@@ -1,4 +1,5 @@
--- `scan::read_number` meets its contract: the first byte picks the clause of `number`, and the digits after it are `more_digits`'s.
+-- `scan::read_number` meets its contract: the first byte picks the clause of `number`, and the digits after it are
+-- `more_digits`'s.
 -- Assumes nothing.
 use borrow.Author.Needs.{needs}
 use mathlib.Core.Path.{sym, _∙_}

@@ -1,5 +1,5 @@
--- `scan::read_numbers` meets its contract. The definition goes number by number as the loop does: what is read on from here, after the
--- numbers in the array, is what is read from the start (`Fields`). Assumes nothing.
+-- `scan::read_numbers` meets its contract. The definition goes number by number as the loop does: what is read on from
+-- here, after the numbers in the array, is what is read from the start (`Fields`). Assumes nothing.
 use Prim.Native.Nat.{_≤_, _-_}
 use native.Mathlib.Nat.{sub-zero}
 use native.Mathlib.Omega.{arith}

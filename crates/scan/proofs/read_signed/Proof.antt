@@ -5,6 +5,7 @@ use mathlib.Core.Path.{sym, _∙_}
 use mathlib.Core.Logic.{⊎-elim, inl, inr}
 use lib.ListN.{drop}
 use mir.Facts.{toZ-ofZ}
+use borrow.Author.Tests.{eqb-true, eqb-false}
 use Rattle.scan.proofs.Digits.{seen-value, seen-malformed, within-value}
 use Rattle.scan.specs.Number.{seenWhole, withinWhole}
 use Rattle.scan.proofs.Signs.{signed-got, signed-zero, signed-none, mag-signed}
@@ -23,7 +24,7 @@ unfolding seenWhole withinWhole
 returns c =
     let g = c .before .before .before in
     let r = g .before .before in
-    (sym (signed-zero _ _ _ (seen-value _ (r .read-number .ensures .0) (g .n .given .1)) _ (c .before .if1 .taken) (c .if2 .taken)), tt)
+    (sym (signed-zero _ _ _ (seen-value _ (r .read-number .ensures .0) (g .n .given .1)) _ (c .before .if1 .taken) (eqb-true _ 0 (c .if2 .taken))), tt)
 
 with-sign-requires : tie.Need-with-sign-requires
 with-sign-requires c κs =
@@ -43,7 +44,7 @@ returns-2 c =
     let w = within-value _ (r .read-number .ensures .1) (g .n .given .1) in
     let z = toZ-ofZ {w = w32} {z = c .with-sign .result} (record { sfits = c .with-sign .ok }) in
     let e = z ∙ c .with-sign .ensures in (
-      rw e (sym (signed-got (drop (a .at) (a .s .now)) _ _ (seen-value _ (r .read-number .ensures .0) (g .n .given .1)) (a .negative) (⊎-elim (λ w. inr (w .1 .left)) (λ w. inl (w .left)) (c .before .if1 .came)))),
+      rw e (sym (signed-got (drop (a .at) (a .s .now)) _ _ (seen-value _ (r .read-number .ensures .0) (g .n .given .1)) (a .negative) (⊎-elim (λ w. inr (eqb-false _ 0 (w .1 .left))) (λ w. inl (w .left)) (c .before .if1 .came)))),
       (w .0, rw (e, mag-signed (a .negative) (g .n .given .0 .0)) (w .1)),
     )
 

@@ -1,4 +1,5 @@
--- `scan::read_whole` meets its contract: where a minus may stand, the class of the byte in front picks the clause of `wholeOf`.
+-- `scan::read_whole` meets its contract: where a minus may stand, the class of the byte in front picks the clause of
+-- `wholeOf`.
 -- Assumes nothing.
 use mathlib.Core.Path.{sym, _∙_}
 use Rattle.scan.specs.Number.{seenWhole, withinWhole}

@@ -1,4 +1,5 @@
--- `test_frames::next` meets its contract: the line that `read_line` sees is that of the piece (`no-line`, `line-read`), and its number says how many bytes follow.
+-- `test_frames::next` meets its contract: the line that `read_line` sees is that of the piece (`no-line`, `line-read`),
+-- and its number says how many bytes follow.
 -- Assumes nothing.
 use mathlib.Core.Path.{_≡_, ap, _∙_}
 use native.Mathlib.Omega.{arith}
