@@ -13,9 +13,10 @@ use Rattle.laws.specs.Entry.{vec}
 use Rattle.laws.specs.Count.{tally}
 use Rattle.laws.specs.Says.{says-true}
 use Rattle.sheet.specs.declared.Sheet.{Sheet}
-use Rattle.sheet.specs.Sheet.{InRange, Interval, typeOf, typeAt, opAt}
+use Rattle.sheet.specs.Sheet.{InRange, Interval, typeOf, opAt}
 use Rattle.sheet.specs.Facts.{horizon-most, ops-most}
 use Rattle.plan.specs.Rules.{Plan, StartAllowed, Rivals}
+use Rattle.plan.specs.Pairs.{rivals-back}
 use Rattle.plan.specs.Order.{Less, Same}
 use Rattle.plan.specs.Answers.{First}
 use Rattle.plan.specs.Total.{same-sym, same-trans}
@@ -84,13 +85,13 @@ module _ (s : Sheet) (L : ℕ) (table : List (List ℤ)) (p : Task) (ok : InRang
         type = f .types-for .type i h ∙ r .oneType ∙ sym (f .types-for .type j k);
         slot = subst (λ (l : ℕ). vec x i % l ≡ vec x j % l) (sym (f .interval-is)) o;
       },
-      subst (λ (a : ℕ). 0 < a) (sym (limit-of j k)) (subst (λ (v : ℕ). 0 < typeAt s v .instances) (r .oneType) (r .limited)),
+      subst (λ (a : ℕ). 0 < a) (sym (limit-of j k)) (rivals-back r .limited),
     )
 
     split : (i j : ℕ) → i < s .«op_count» → j < s .«op_count» → Rivals s i j → vec u i ≡ vec u j → vec x i % L ≡ vec x j % L → Dec (i < j) → ⊥
     split i j h k r e o (yes l) = seats-apart p x u seats q i j l (op-of k) (meet i j h k r o) e
     split i j h k r e o (no l) = seats-apart p x u seats q j i (before i j l (r .different)) (op-of h)
-        (meet j i k h (record { different = λ z. r .different (sym z); oneType = sym (r .oneType); limited = subst (λ (v : ℕ). 0 < typeAt s v .instances) (r .oneType) (r .limited) }) (sym o)) (sym e)
+        (meet j i k h (rivals-back r) (sym o)) (sym e)
       where
         before : (a b : ℕ) → ¬ (a < b) → (a ≡ b → ⊥) → b < a
         before a b n d = at (decLt b a)

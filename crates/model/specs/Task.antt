@@ -5,7 +5,7 @@ use Prim.Native.Nat.{ℕ, _+_, _*_, _<_, _≤_}
 use lib.ListN.{getD}
 use lib.IntN.{ℤ, pos, negsuc}
 use lib.Signed.{_≤ℤ_}
-use Rattle.sizes.specs.Sizes.{mostOperations, mostEdges}
+use Rattle.sizes.specs.Sizes.{mostOperations, mostEdges, mostStarts}
 use Rattle.laws.specs.Entry.{cell}
 use Rattle.dependence.specs.declared.Graph.{Graph}
 use Rattle.dependence.specs.Graph as dependence
@@ -24,7 +24,7 @@ leastLag = negsuc 16383
 
 -- the greatest lag that matters
 abbrev pub mostLag : ℤ
-mostLag = pos 128
+mostLag = pos mostStarts
 
 -- a lag between those
 pub record Small (z : ℤ) : Type 0 where

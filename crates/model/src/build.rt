@@ -8,14 +8,15 @@ use dependence::Graph;
 use sheet::Sheet;
 use sizes::MOST_EDGES;
 use sizes::MOST_OPERATIONS;
+use sizes::MOST_STARTS;
 use sizes::MOST_TYPES;
 use task::Task;
 
 // Pairs of operations: a lag for each, row by row.
 const PAIRS: usize = MOST_OPERATIONS * MOST_OPERATIONS;
 
-// The greatest lag that matters, as starts are below 128, and the least one that the dependence part gives.
-const MOST_LAG: i32 = 128;
+// The greatest lag that matters, as starts are below it, and the least one that the dependence part gives.
+const MOST_LAG: i32 = MOST_STARTS as i32;
 
 const LEAST_LAG: i32 = -16384;
 

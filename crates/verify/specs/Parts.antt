@@ -1,6 +1,6 @@
 -- The rules of a plan, each for all operations, edges or pairs: what the parts of the check decide, and that together they
 -- are a plan. Assumes nothing.
-use mathlib.Core.Path.{_≡_, sym, subst}
+use mathlib.Core.Path.{_≡_, sym}
 use Prim.Native.Nat.{ℕ, _<_}
 use native.Mathlib.Omega.{arith}
 use native.Mathlib.Decide.{decLt}
@@ -13,8 +13,9 @@ use Rattle.dependence.specs.declared.Graph.{Graph}
 use Rattle.dependence.specs.Graph.{edgeAt}
 use Rattle.dependence.specs.Rules.{Meets}
 use Rattle.sheet.specs.declared.Sheet.{Sheet}
-use Rattle.sheet.specs.Sheet.{InRange, typeAt, graphOf}
+use Rattle.sheet.specs.Sheet.{InRange, graphOf}
 use Rattle.sheet.specs.Facts.{horizon-most}
+use Rattle.plan.specs.Pairs.{rivals-back, overlap-back}
 use Rattle.plan.specs.Rules.{Plan, StartAllowed, InstanceAllowed, Rivals, Overlap}
 
 abbrev pub EachStart : Sheet → ℕ → (ℕ → ℕ) → Type 0
@@ -54,16 +55,8 @@ pub starts-low : {s : Sheet} {L : ℕ} {t : ℕ → ℕ} → InRange s → EachS
 starts-low ok a i h = omega (arith, a i h .inHorizon, horizon-most ok)
 
 module _ {s : Sheet} {L : ℕ} {t u : ℕ → ℕ} where
-  clash-sym : {i j : ℕ} → Clash s L t u i j → Clash s L t u j i
-  clash-sym c = record {
-    rivals = record {
-      different = λ e. c .rivals .different (sym e);
-      oneType = sym (c .rivals .oneType);
-      limited = subst (λ (r : ℕ). 0 < typeAt s r .instances) (c .rivals .oneType) (c .rivals .limited);
-    };
-    same = sym (c .same);
-    overlap = sym (c .overlap);
-  }
+  clash-back : {i j : ℕ} → Clash s L t u i j → Clash s L t u j i
+  clash-back {i} {j} c = record { rivals = rivals-back (c .rivals); same = sym (c .same); overlap = overlap-back s L i (t i) j (t j) (c .overlap) }
 
   pub plan-apart : Plan s L t u → AllApart s L t u
   plan-apart p i h j l c = p .apart i j h (omega arith) (c .rivals) (c .same) (c .overlap)
@@ -81,5 +74,5 @@ module _ {s : Sheet} {L : ℕ} {t u : ℕ → ℕ} where
       pick i j h k c (no l) = other (decLt i j)
         where
           other : Dec (i < j) → ⊥
-          other (yes m) = d j k i m (clash-sym c)
+          other (yes m) = d j k i m (clash-back c)
           other (no m) = c .rivals .different (omega arith)

@@ -4,13 +4,14 @@ use Prim.Native.Nat.{ℕ}
 use native.Mathlib.Omega.{arith}
 use mathlib.Core.Path.{_≡_, sym, ap, _∙_}
 use lib.ListN.{length, length-map, getD, List·getD-eq-default}
+use Rattle.sizes.specs.Sizes.{mostTypes}
 use Rattle.sheet.specs.declared.ResourceType.{ResourceType}
 use Rattle.sheet.specs.Sheet.{noType}
 use borrow.Author.Needs.{needs}
 use Rattle.rules.proofs.instances_of.Statement.{statement}
 use Rattle.rules.proofs.instances_of.Tie as tie
 
-types-whole : (c : tie.Start) → length (c .args .t1 .types) ≡ 8
+types-whole : (c : tie.Start) → length (c .args .t1 .types) ≡ mostTypes
 types-whole c = sym (length-map (c .args .t1 .types) _) ∙ c .good .0 .1 .1 .1 .1 .1 .0 .1 .0 .1
 
 resource-of-requires : tie.Need-resource-of-requires

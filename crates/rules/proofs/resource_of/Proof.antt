@@ -3,13 +3,14 @@
 use native.Mathlib.Omega.{arith}
 use mathlib.Core.Path.{_≡_, sym, ap, _∙_}
 use lib.ListN.{length, length-map, List·getD-eq-default}
+use Rattle.sizes.specs.Sizes.{mostOperations}
 use Rattle.sheet.specs.declared.Operation.{Operation}
 use Rattle.sheet.specs.Sheet.{noOperation}
 use borrow.Author.Needs.{needs}
 use Rattle.rules.proofs.resource_of.Statement.{statement}
 use Rattle.rules.proofs.resource_of.Tie as tie
 
-ops-whole : (c : tie.Start) → length (c .args .t1 .ops) ≡ 24
+ops-whole : (c : tie.Start) → length (c .args .t1 .ops) ≡ mostOperations
 ops-whole c = sym (length-map (c .args .t1 .ops) _) ∙ c .good .0 .1 .1 .1 .1 .1 .1 .1 .0 .1 .0 .1
 
 returns : tie.Need-returns
