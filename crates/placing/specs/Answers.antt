@@ -1,4 +1,5 @@
--- A new placing table, and placing an operation: what each answer says. The questions come in their order; each answer pins the whole result.
+-- A new placing table, and placing an operation: what each answer says. The questions come in their order; each answer
+-- pins the whole result.
 use Prim.Native.Nat.{ℕ}
 use mathlib.Core.Path.{_≡_}
 use Rattle.sheet.specs.declared.Sheet.{Sheet}

@@ -1,6 +1,7 @@
--- What the questions before a placing tell, once they were asked: an answer 0 that all got a yes, another that it is the refusal of a service that asks them.
--- Assumes nothing.
+-- What the questions before a placing tell, once they were asked: 0 that all got a yes, another number that it is the
+-- refusal of each service that asks them. And what a placing's answer tells of the table. Assumes nothing.
 use mathlib.Core.Path.{_≡_, sym, ap, _∙_}
+use mathlib.Core.Logic.{_⊎_, inl, inr}
 use Prim.Native.Nat.{ℕ, _<_}
 use native.Mathlib.Omega.{arith}
 use Rattle.sizes.specs.Sizes.{mostOperations}
@@ -9,8 +10,9 @@ use Rattle.sheet.specs.Facts.{ops-most}
 use Rattle.sheet.specs.AnswerLaws.{sheet-out}
 use Rattle.sheet.specs.Questions.{at-no, at-yes, AskedAt, Accepted}
 use Rattle.placing.specs.declared.Table.{Table}
+use Rattle.placing.specs.declared.PlaceAnswer.{PlaceAnswer}
 use Rattle.placing.specs.Table.{Consistent, Target, Unplaced}
-use Rattle.placing.specs.Answers.{newTable, NewAt, ToPlace, AskedToPlace}
+use Rattle.placing.specs.Answers.{newTable, NewAt, ToPlace, AskedToPlace, refused, GivenLowest, PlaceAt}
 
 -- a new table answers what the sheet's questions and 4 answer
 pub new-asked : {s : Sheet} {L n : ℕ} → AskedAt s L n → NewAt s L (newTable n)
@@ -24,6 +26,9 @@ pub record Ready (s : Sheet) (L : ℕ) (table : Table) (op start : ℕ) : Type 0
   pub consistent : Consistent s L table
   pub target : Target s op start
   pub unplaced : Unplaced table op
+
+kept : {table : Table} {r : PlaceAnswer} {n : ℕ} → r ≡ refused table n → r .table ≡ table
+kept e = ap (λ (x : PlaceAnswer). x .table) e
 
 module _ {s : Sheet} {L : ℕ} {table : Table} {op start : ℕ} where
   pub ready : {n : ℕ} → AskedToPlace s L table op start n → n ≡ 0 → Ready s L table op start
@@ -52,3 +57,14 @@ module _ {s : Sheet} {L : ℕ} {table : Table} {op start : ℕ} where
   -- the operation has an entry in the table
   pub has-entry : Ready s L table op start → op < mostOperations
   has-entry y = omega (arith, y .target .operation, ops-most (y .accepted .sheet))
+
+  -- the table is the one that came, or the operation was placed
+  pub kept-or-placed : {r : PlaceAnswer} → PlaceAt s L table op start r → (r .table ≡ table) ⊎ (Ready s L table op start × GivenLowest s L table op start r)
+  kept-or-placed (at-no _ e) = inl (kept e)
+  kept-or-placed (at-yes _ (at-no _ e)) = inl (kept e)
+  kept-or-placed (at-yes _ (at-yes _ (at-no _ e))) = inl (kept e)
+  kept-or-placed (at-yes _ (at-yes _ (at-yes _ (at-no _ e)))) = inl (kept e)
+  kept-or-placed (at-yes _ (at-yes _ (at-yes _ (at-yes _ (at-no _ e))))) = inl (kept e)
+  kept-or-placed (at-yes _ (at-yes _ (at-yes _ (at-yes _ (at-yes _ (at-no _ e)))))) = inl (kept e)
+  kept-or-placed (at-yes r (at-yes i (at-yes c (at-yes t (at-yes f (at-yes _ g)))))) =
+      inr (record { accepted = record { sheet = r; interval = i }; consistent = c; target = t; unplaced = f }, g)

@@ -1,7 +1,8 @@
--- A placing alters one entry: the table with that entry stored is the table that the placing gives. With a refusal the entry is one that stands there.
--- Assumes nothing.
+-- A placing alters one entry: the table with that entry stored is the table that the placing gives. With a refusal the
+-- entry is one that stands there. Assumes nothing.
 use mathlib.Core.Path.{_≡_, sym, ap, subst, _∙_}
 use mathlib.Core.Bool.{true}
+use mathlib.Core.Logic.{⊎-elim}
 use mathlib.Core.List.{List}
 use Prim.Native.Nat.{ℕ, _<_}
 use native.Mathlib.Omega.{arith}
@@ -9,14 +10,13 @@ use lib.ListN.{length, getD, set}
 use lib.Seq.{set-getD, getD-set-same}
 use Rattle.sizes.specs.Sizes.{mostOperations}
 use Rattle.sheet.specs.declared.Sheet.{Sheet}
-use Rattle.sheet.specs.Facts.{ops-most}
-use Rattle.sheet.specs.Questions.{at-no, at-yes}
 use Rattle.placing.specs.declared.Placement.{Placement}
 use Rattle.placing.specs.declared.Table.{Table}
 use Rattle.placing.specs.declared.PlaceAnswer.{PlaceAnswer}
 use Rattle.placing.specs.declared.Change.{Change}
-use Rattle.placing.specs.Table.{nothing, placementAt}
-use Rattle.placing.specs.Answers.{refused, placedOn, PlaceAt}
+use Rattle.placing.specs.Table.{nothing, placementAt, placing}
+use Rattle.placing.specs.Answers.{PlaceAt}
+use Rattle.placing.specs.Asking.{has-entry, kept-or-placed}
 
 -- the table with one entry stored
 abbrev pub storing : Table → ℕ → Placement → Table
@@ -31,29 +31,24 @@ kept : (table : Table) (at : ℕ) → storing table at (placementAt table at) �
 kept table at = ap {B = Table} (λ (l : List Placement). record { entries = l }) (set-getD (table .entries) at nothing)
 
 -- the entry of the table afterwards, stored in the table before, makes the table afterwards
-abbrev OneEntry : Table → ℕ → PlaceAnswer → Type 0
-OneEntry table at r = storing table at (placementAt (r .table) at) ≡ r .table
+abbrev OneEntry : Table → ℕ → Table → Type 0
+OneEntry table at after = storing table at (placementAt after at) ≡ after
 
-refused-entry : (table : Table) (at : ℕ) {r : PlaceAnswer} {n : ℕ} → r ≡ refused table n → OneEntry table at r
-refused-entry table at e = subst (OneEntry table at) (sym e) (kept table at)
-
-placed-entry : (table : Table) (op start u at : ℕ) → op < length (table .entries) → at ≡ op → OneEntry table at (placedOn table op start u)
+placed-entry : (table : Table) (op start u at : ℕ) → op < length (table .entries) → at ≡ op → OneEntry table at (placing table op start u)
 placed-entry table op start u at n here =
     let p : Placement = record { placed = true; start = start; instance = u } in
     let e : getD (set (table .entries) op p) op nothing ≡ p = getD-set-same (table .entries) op p nothing n in
-    subst (λ (k : ℕ). OneEntry table k (placedOn table op start u)) (sym here) (ap (storing table op) e)
+    subst (λ (k : ℕ). OneEntry table k (placing table op start u)) (sym here) (ap (storing table op) e)
 
 module _ {s : Sheet} {L : ℕ} {table : Table} {op start : ℕ} (long : length (table .entries) ≡ mostOperations) {at : ℕ} (here : op < mostOperations → at ≡ op) where
-  one-entry : {r : PlaceAnswer} → PlaceAt s L table op start r → OneEntry table at r
-  one-entry (at-no _ e) = refused-entry table at e
-  one-entry (at-yes _ (at-no _ e)) = refused-entry table at e
-  one-entry (at-yes _ (at-yes _ (at-no _ e))) = refused-entry table at e
-  one-entry (at-yes _ (at-yes _ (at-yes _ (at-no _ e)))) = refused-entry table at e
-  one-entry (at-yes _ (at-yes _ (at-yes _ (at-yes _ (at-no _ e))))) = refused-entry table at e
-  one-entry (at-yes _ (at-yes _ (at-yes _ (at-yes _ (at-yes _ (at-no _ e)))))) = refused-entry table at e
-  one-entry (at-yes sheet (at-yes _ (at-yes _ (at-yes target (at-yes _ (at-yes _ g)))))) =
-      let n : op < mostOperations = omega (arith, target .operation, ops-most sheet) in
-      subst (OneEntry table at) (sym (g .pinned)) (placed-entry table op start (g .instance) at (omega arith) (here n))
+  one-entry : {r : PlaceAnswer} → PlaceAt s L table op start r → OneEntry table at (r .table)
+  one-entry a =
+      ⊎-elim (λ e. subst (OneEntry table at) (sym e) (kept table at))
+      (λ p.
+      let n = has-entry (p .0) in
+      let g = p .1 in
+      subst (OneEntry table at) (sym (ap (λ (x : PlaceAnswer). x .table) (g .pinned))) (placed-entry table op start (g .instance) at (omega arith) (here n)))
+      (kept-or-placed a)
 
   pub as-changed : {r : PlaceAnswer} {p : Placement} → PlaceAt s L table op start r → p ≡ placementAt (r .table) at
       → PlaceAt s L table op start (changed table (record { answer = r .answer; instance = r .instance; at = at; entry = p }))

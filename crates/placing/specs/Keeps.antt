@@ -1,9 +1,11 @@
--- A new table is consistent, and a table stays consistent when an operation is placed in it on a free instance.
--- Assumes nothing.
+-- A new table is consistent, and a placing keeps a table consistent: question 10 gets a yes where no other hand was at
+-- the table. Assumes nothing.
 use mathlib.Core.Path.{_≡_, refl, sym, ap, subst, _∙_}
 use mathlib.Core.Bool.{true}
+use mathlib.Core.Logic.{⊎-elim}
 use Prim.Native.Nat.{ℕ, _<_}
 use native.Mathlib.Decide.{ℕ-discrete}
+use native.Mathlib.Omega.{arith}
 use lib.ListN.{length, getD-replicate, List·getD-eq-default}
 use lib.Seq.{getD-set-same, getD-set-other}
 use Rattle.sizes.specs.Sizes.{mostOperations}
@@ -11,10 +13,15 @@ use Rattle.laws.specs.Z.{true-false}
 use Rattle.laws.specs.Store.{store}
 use Rattle.sheet.specs.declared.Sheet.{Sheet}
 use Rattle.sheet.specs.Sheet.{typeAt}
+use Rattle.sheet.specs.Questions.{at-no, at-yes}
 use Rattle.plan.specs.Rules.{Rivals, Overlap}
 use Rattle.placing.specs.declared.Placement.{Placement}
 use Rattle.placing.specs.declared.Table.{Table}
+use Rattle.placing.specs.declared.NewTable.{NewTable}
+use Rattle.placing.specs.declared.PlaceAnswer.{PlaceAnswer}
 use Rattle.placing.specs.Table.{nothing, emptyTable, placementAt, Placed, EntryAllowed, Taken, Apart, Consistent, Target, Free, placing}
+use Rattle.placing.specs.Answers.{NewAt, PlaceAt}
+use Rattle.placing.specs.Asking.{has-entry, kept-or-placed}
 use Rattle.placing.specs.Entries.{empty-allowed, placed-allowed, everywhere}
 
 -- ---- a new table
@@ -22,7 +29,7 @@ use Rattle.placing.specs.Entries.{empty-allowed, placed-allowed, everywh
 empty-at : (i : ℕ) → placementAt emptyTable i ≡ nothing
 empty-at = everywhere (λ i. placementAt emptyTable i ≡ nothing) (λ i h. getD-replicate mostOperations i nothing nothing h) (λ i h. List·getD-eq-default (emptyTable .entries) nothing h)
 
-pub empty-consistent : (s : Sheet) (L : ℕ) → Consistent s L emptyTable
+empty-consistent : (s : Sheet) (L : ℕ) → Consistent s L emptyTable
 empty-consistent s L = record {
   entries = λ i. subst (EntryAllowed s L i) (sym (empty-at i)) (empty-allowed refl refl refl);
   apart = λ i p. true-false (sym p ∙ ap (λ (x : Placement). x .placed) (empty-at i));
@@ -85,7 +92,7 @@ module _ (s : Sheet) (L : ℕ) (table : Table) (op start u : ℕ) (within : op <
               overlap = subst (λ (x : Placement). Overlap s L i (placementAt table i .start) j (x .start)) e (t .overlap);
             })
 
-    pub keeps : Consistent s L (placing table op start u)
+    keeps : Consistent s L (placing table op start u)
     unfolding Takes
     keeps = record {
       entries = λ i. store (EntryAllowed s L) (table .entries) op (record { placed = true; start = start; instance = u }) nothing within
@@ -99,3 +106,25 @@ module _ (s : Sheet) (L : ℕ) (table : Table) (op start u : ℕ) (within : op <
         at i (no n) p =
             let e = there i n in
             subst (λ (x : Placement). (j : ℕ) → Takes i x j → ⊥) (sym e) (old-apart i (subst (λ (x : Placement). x .placed ≡ true) e p))
+
+-- ---- the answers
+
+module _ {s : Sheet} {L : ℕ} where
+  pub new-consistent : {r : NewTable} → NewAt s L r → Consistent s L (r .table)
+  new-consistent {r} a = subst (Consistent s L) (sym (made a)) (empty-consistent s L)
+    where
+      made : NewAt s L r → r .table ≡ emptyTable
+      made (at-no _ e) = ap (λ (x : NewTable). x .table) e
+      made (at-yes _ (at-no _ e)) = ap (λ (x : NewTable). x .table) e
+      made (at-yes _ (at-yes _ e)) = ap (λ (x : NewTable). x .table) e
+
+  pub place-consistent : {table : Table} {op start : ℕ} {r : PlaceAnswer} → length (table .entries) ≡ mostOperations
+      → Consistent s L table → PlaceAt s L table op start r → Consistent s L (r .table)
+  place-consistent {table} {op} {start} long c a =
+      ⊎-elim (λ e. subst (Consistent s L) (sym e) c)
+      (λ p.
+      let y = p .0 in
+      let g = p .1 in
+      subst (Consistent s L) (sym (ap (λ (x : PlaceAnswer). x .table) (g .pinned)))
+      (keeps s L table op start (g .instance) (omega (arith, has-entry y)) c (y .target) (g .lowest .free)))
+      (kept-or-placed a)

@@ -1,5 +1,5 @@
--- The instances that an operation can get are those below a number, its room; and the first untaken one below it is the lowest free one.
--- Assumes nothing.
+-- The instances that an operation can get are those below a number, its room; and the first untaken one below it is the
+-- lowest free one. Assumes nothing.
 use Prim.Native.Nat.{ℕ, _<_, _≤_}
 use native.Mathlib.Omega.{arith}
 use mathlib.Core.Path.{_≡_, sym, _∙_}

@@ -1,4 +1,5 @@
--- The placing table (modulo reservation table) as its rules read it: what an entry may be, what is taken, what is free, when the table is consistent.
+-- The placing table (modulo reservation table) as its rules read it: what an entry may be, what is taken, what is free,
+-- when the table is consistent.
 use Prim.Native.Nat.{ℕ, _<_, _≤_}
 use mathlib.Core.Path.{_≡_}
 use mathlib.Core.Bool.{true, false}

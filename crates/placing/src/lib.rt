@@ -1,4 +1,5 @@
-// The placing table (modulo reservation table) of a sheet at an interval: which operations are placed, at which start, on which instance.
+// The placing table (modulo reservation table) of a sheet at an interval: which operations are placed, at which start,
+// on which instance.
 ghost use Prim.Native.Nat.{ℕ, _<_};
 ghost use mathlib.Core.Path.{_≡_};
 ghost use Rattle.sizes.specs.Sizes.{mostOperations};
@@ -24,6 +25,7 @@ pub struct Table {
     pub entries: [Placement; MOST_OPERATIONS],
 }
 
+// The answer, and a table in which nothing is placed.
 #[repr(C)]
 pub struct NewTable {
     pub answer: usize,
@@ -97,12 +99,10 @@ fn untaken(
 ) -> bool
     ensures { λ r. ⌜ Says (Untaken sheet interval table op start instance) r ⌝ }
 {
-    let mut j: usize = 0;
-    while j < MOST_OPERATIONS {
+    for j in 0..MOST_OPERATIONS {
         if takes(sheet, interval, table, op, start, instance, j) {
             return false;
         }
-        j += 1;
     }
     true
 }
@@ -129,12 +129,10 @@ fn first_untaken(
 ) -> usize
     ensures { λ r. ⌜ FirstUntaken sheet interval table op start limit r ⌝ }
 {
-    let mut u: usize = 0;
-    while u < limit {
+    for u in 0..limit {
         if untaken(sheet, interval, table, op, start, u) {
             return u;
         }
-        u += 1;
     }
     limit
 }
@@ -160,16 +158,15 @@ fn entry_allowed(sheet: Sheet, interval: usize, i: usize, p: Placement) -> bool
     rules::instance_allowed(sheet, i, p.instance)
 }
 
+// Whether every entry of the table is.
 fn entries_allowed(sheet: Sheet, interval: usize, table: Table) -> bool
     ensures { λ r. ⌜ Says ((i : ℕ) → EntryAllowed sheet interval i (placementAt table i)) r ⌝ }
 {
-    let mut i: usize = 0;
-    while i < MOST_OPERATIONS {
+    for i in 0..MOST_OPERATIONS {
         let p = table.entries[i];
         if !entry_allowed(sheet, interval, i, p) {
             return false;
         }
-        i += 1;
     }
     true
 }
@@ -186,15 +183,14 @@ fn apart(sheet: Sheet, interval: usize, table: Table, i: usize) -> bool
     untaken(sheet, interval, table, i, p.start, p.instance)
 }
 
+// Whether no two placed rivals share an instance.
 fn all_apart(sheet: Sheet, interval: usize, table: Table) -> bool
     ensures { λ r. ⌜ Says ((i : ℕ) → Apart sheet interval table i) r ⌝ }
 {
-    let mut i: usize = 0;
-    while i < MOST_OPERATIONS {
+    for i in 0..MOST_OPERATIONS {
         if !apart(sheet, interval, table, i) {
             return false;
         }
-        i += 1;
     }
     true
 }
@@ -221,7 +217,8 @@ fn target_in_range(sheet: Sheet, op: usize, start: usize) -> bool
     start < sheet.horizon
 }
 
-// The questions before a placing, which every service that places an operation asks first: 0, or the number of the refusal.
+// The questions before a placing, which every service that places an operation asks first: 0, or the number of the
+// refusal.
 fn asked(sheet: Sheet, interval: usize, table: Table, op: usize, start: usize) -> usize
     ensures { λ r. ⌜ AskedToPlace sheet interval table op start r ⌝ }
 {
@@ -242,6 +239,7 @@ fn asked(sheet: Sheet, interval: usize, table: Table, op: usize, start: usize) -
     0
 }
 
+// The answer with a refusal: the table holds what it held.
 fn refuse(answer: usize, table: Table) -> PlaceAnswer
     ensures { λ r. ⌜ r ≡ refused table answer ⌝ }
 {
@@ -252,7 +250,8 @@ fn refuse(answer: usize, table: Table) -> PlaceAnswer
     }
 }
 
-// Places an operation at a start on the lowest instance that is free there: the sheet's questions, 4, and 10 to 13. Dependences are not considered.
+// Places an operation at a start on the lowest instance that is free there: the sheet's questions, 4, and 10 to 13.
+// Dependences are not considered.
 pub fn place(sheet: Sheet, interval: usize, table: Table, op: usize, start: usize) -> PlaceAnswer
     ensures { λ r. ⌜ PlaceAt sheet interval table op start r ⌝ }
 {
@@ -277,6 +276,8 @@ pub fn place(sheet: Sheet, interval: usize, table: Table, op: usize, start: usiz
         table: Table { entries },
     }
 }
+
+// ---- placing into a kept table
 
 // What a placing answers besides the table.
 #[repr(C)]
@@ -303,6 +304,7 @@ fn entry_place(op: usize) -> usize
     0
 }
 
+// A placing as the change of that one entry.
 fn entry_change(sheet: Sheet, interval: usize, table: Table, op: usize, start: usize) -> Change
     ensures { λ r. ⌜ (r .at < mostOperations) × PlaceAt sheet interval table op start (changed table r) ⌝ }
 {

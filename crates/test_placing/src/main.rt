@@ -1,4 +1,5 @@
-// Runs scripts on placing tables and prints what is answered. Standard input has pieces in pairs, a sheet and then the script for it.
+// Runs scripts on placing tables and prints what is answered. Standard input has pieces in pairs, a sheet and then the
+// script for it.
 mod print;
 mod script;
 

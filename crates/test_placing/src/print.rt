@@ -44,13 +44,7 @@ pub fn placed(answer: usize, instance: usize) {
 }
 
 fn is_nothing(p: Placement) -> bool {
-    if p.placed {
-        return false;
-    }
-    if p.start != 0 {
-        return false;
-    }
-    p.instance == 0
+    !p.placed && p.start == 0 && p.instance == 0
 }
 
 // An entry, unless all of it is 0.
@@ -71,10 +65,8 @@ fn entry(i: usize, p: Placement) {
 
 // The entries of a table; those that are not printed are all 0.
 pub fn table(all: Table) {
-    let mut i: usize = 0;
-    while i < MOST_OPERATIONS {
+    for i in 0..MOST_OPERATIONS {
         let p = all.entries[i];
         entry(i, p);
-        i += 1;
     }
 }

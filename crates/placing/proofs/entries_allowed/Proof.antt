@@ -1,5 +1,5 @@
--- `placing::entries_allowed` meets its contract. The invariant: the entries below i are allowed; past the table nothing is placed.
--- Assumes nothing.
+-- `placing::entries_allowed` meets its contract. The invariant: the entries below i are allowed; past the table nothing
+-- is placed. Assumes nothing.
 use borrow.Author.Needs.{needs}
 use Prim.Native.Nat.{ℕ, _≤_, _<_, _-_}
 use native.Mathlib.Omega.{arith}

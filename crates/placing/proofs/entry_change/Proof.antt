@@ -1,5 +1,5 @@
--- `placing::entry_change` meets its contract: the entry of the table that `place` returns, stored in the table that came, is that table.
--- Assumes nothing.
+-- `placing::entry_change` meets its contract: the entry of the table that `place` returns, stored in the table that
+-- came, is that table. Assumes nothing.
 use mathlib.Core.Path.{_≡_, refl, sym, _∙_}
 use lib.ListN.{length, length-map}
 use borrow.Author.Needs.{needs}

@@ -1,6 +1,8 @@
--- `placing::leastplan_place_into` meets its contract: a walk of its MIR, by hand. The borrow is opened, the table is copied out and passed to `entry_change`, the one entry that
--- `entry_change` names is stored, and the borrow is closed at the table with that entry. All that the walk knows of `entry_change` is that it meets its contract.
--- The MIR: _6 = *_1; _7 = entry_change(_2, _3, _6, _4, _5); _8 = _7.2; _9 = _8 * 24; _10 = addrOf (*_1).0; _11 = offset _10 _9; *_11 = _7.3; _0 = aggregate [_7.0, _7.1]; return.
+-- `placing::leastplan_place_into` meets its contract: a walk of its MIR, by hand. The borrow is opened, the table is
+-- copied out and passed to `entry_change`, the one entry that `entry_change` names is stored, and the borrow is closed
+-- at the table with that entry. All that the walk knows of `entry_change` is that it meets its contract.
+-- The MIR: _6 = *_1; _7 = entry_change(_2, _3, _6, _4, _5); _8 = _7.2; _9 = _8 * 24; _10 = addrOf (*_1).0;
+-- _11 = offset _10 _9; *_11 = _7.3; _0 = aggregate [_7.0, _7.1]; return. The 24 are the bytes of an entry.
 -- Assumes nothing.
 use mathlib.Core.Path.{_≡_, refl, sym, ap, subst, _∙_}
 use Prim.Native.Nat.{ℕ, zero, suc, _+_, _*_, _<_, _^_}
@@ -50,6 +52,7 @@ use denote.Triple.Spec.{Meets, tripleOf}
 use denote.Triple.Table.{entered, cited}
 use denote.Triple.Walked.{says, Stays, stay-ref, stay-none, walkOf, goes-none, goes-ref, Walks, ends-at, walked, walk-meets}
 use denote.Exit.{yes}
+use Rattle.sizes.specs.Sizes.{mostOperations}
 use Rattle.placing.specs.Answers.{PlaceAt}
 use Rattle.placing.specs.Change.{storing, changed}
 use Rattle.placing.specs.declared.Table.{Table}
@@ -79,13 +82,17 @@ use Rattle.placing.proofs.leastplan_place_into.Code as code
 abbrev stayed : Stays (f.ended .signature .params) (f.ended .kept)
 stayed = (stay-ref (0 ∷ []) tt (plain (λ _. T.the-row)), (stay-none (λ _. S.the-row) yes, (stay-none (λ _. usize) yes, (stay-none (λ _. usize) yes, (stay-none (λ _. usize) yes, tt)))))
 
+-- the bytes of an entry: a flag, in a word of its own, and two numbers
+abbrev entryBytes : ℕ
+entryBytes = 24
+
 -- what is answered besides the table
 abbrev answerOf : Change → Outcome
 answerOf r = record { answer = r .answer; instance = r .instance }
 
 -- what `entry_change` ensures
 abbrev Stored : Sheet → ℕ → Table → ℕ → ℕ → Change → Type 0
-Stored g i h n v r = (r .at < 24) × PlaceAt g i h n v (changed h r)
+Stored g i h n v r = (r .at < mostOperations) × PlaceAt g i h n v (changed h r)
 
 -- ---- lists
 
@@ -170,7 +177,7 @@ module _ {M : Type 1} (𝓤 : URA M) (H : Heap 𝓤) (A : Atoms 𝓤) (W : Given
   abbrev at : List Val × (List Val × (List Val × (List Val × (List Val × Unit {0}))))
   at = (vptr b o ∷ [], (machS ∷ [], (vint w64 i ∷ [], (vint w64 n ∷ [], (vint w64 v ∷ [], tt)))))
 
-  -- a table's machine value, and a result's
+  -- a table's machine value
   abbrev mach : Table → Val
   mach t = LL.tuple-val T.the-type T′.the-laws (T.the-type .to t)
 
@@ -221,34 +228,34 @@ module _ {M : Type 1} (𝓤 : URA M) (H : Heap 𝓤) (A : Atoms 𝓤) (W : Given
       owned ! N.the-row (Is N.the-row) (LL.makes N.the-type N′.the-plain 𝓤 H A) (answerOf r) _ is $ done !
 
   -- what whoever holds a result knows of its fields
-  -- the table with the entry that is stored
   entry-is : (r : Change) (w : Val) → Is P.the-row r (w ∷ []) → Is E.the-row (r .entry) (machE (r .entry) ∷ [])
   entry-is r w is = LL.owed P.the-type P′.the-laws r (w ∷ []) is .1 .1 .1 .0
 
   at-fits : (r : Change) (w : Val) → Is P.the-row r (w ∷ []) → r .at < 2 ^ 64
   at-fits r w is = LL.owed P.the-type P′.the-laws r (w ∷ []) is .1 .1 .0 .1
 
-  times-fits : (r : Change) → r .at < 24 → r .at * 24 < 2 ^ 64
+  times-fits : (r : Change) → r .at < mostOperations → r .at * entryBytes < 2 ^ 64
   times-fits r e = omega arith
 
   -- the entries of the table that was lent
-  long : Is T.the-row h (mach h ∷ []) → length (map (E.the-type .to) (h .entries)) ≡ 24
+  long : Is T.the-row h (mach h ∷ []) → length (map (E.the-type .to) (h .entries)) ≡ mostOperations
   long was = LL.owed T.the-type T′.the-laws h (mach h ∷ []) was .0 .1 .0 .1
 
-  vals-long : Is T.the-row h (mach h ∷ []) → length (vals h) ≡ 24
+  vals-long : Is T.the-row h (mach h ∷ []) → length (vals h) ≡ mostOperations
   vals-long was = length-map (map (E.the-type .to) (h .entries)) valE ∙ long was
 
   -- their machine values with the one that is stored
   as-stored : (r : Change) → set (vals h) (r .at) (machE (r .entry)) ≡ vals (after r)
   as-stored r = sym (ap (map valE) (map-set (E.the-type .to) (h .entries) (r .at) (r .entry)) ∙ map-set valE (map (E.the-type .to) (h .entries)) (r .at) (E.the-type .to (r .entry)))
 
+  -- the table with the entry that is stored
   table-is : (r : Change) (w : Val) → Is T.the-row h (mach h ∷ []) → Is P.the-row r (w ∷ []) → Is T.the-row (after r) (mach (after r) ∷ [])
   table-is r w was is =
       let old = LL.owed T.the-type T′.the-laws h (mach h ∷ []) was .0 in
       let ys = map (E.the-type .to) (h .entries) in
       let s = each-set (EntryRow) valE tellsE ys (r .at) (E.the-type .to (r .entry)) (each-own EntryRow valE tellsE ys (old .0) (old .1 .1)) (entry-is r w is) in
       LL.owes T.the-type T′.the-laws (after r) (
-        subst (λ zs. Is (array.Array EntryRow 24) zs (array.arrayVal (map valE zs) ∷ [])) (sym (map-set (E.the-type .to) (h .entries) (r .at) (r .entry)))
+        subst (λ zs. Is (array.Array EntryRow mostOperations) zs (array.arrayVal (map valE zs) ∷ [])) (sym (map-set (E.the-type .to) (h .entries) (r .at) (r .entry)))
             (map valE (set ys (r .at) (E.the-type .to (r .entry))), ((refl, length-set ys (r .at) (E.the-type .to (r .entry)) ∙ old .1 .0 .1), s)),
         tt,
       )
@@ -272,7 +279,8 @@ module _ {M : Type 1} (𝓤 : URA M) (H : Heap 𝓤) (A : Atoms 𝓤) (W : Given
         opens ! tt T.the-row {h = h} b o (λ vs. spelt ! T.the-row (Is T.the-row) (shows 𝓤 H A T.the-row) (LL.vals T.the-type T′.the-laws) (LL.tells T.the-type T′.the-laws) fullShare h vs b o $
         use1 W (‵ (fat fullShare T′.mir b o (mach h))) (W .laws .raw-at fullShare T′.mir b o (mach h)) $
         move ! (1 ∷ []) $ peeks ! T.the-row (Is T.the-row) (shows 𝓤 H A T.the-row) h (LL.vals T.the-type T′.the-laws h) (λ was. move ! (1 ∷ 0 ∷ []) $
-        -- [the table's cell; what a Table owns; the open borrow; obs; auth; true; the numbers'; _11; …; _10; …; down to room for _0; …]
+        -- [the table's cell; what a Table owns; the open borrow; obs; auth; true; the numbers'; _11; …; _10; …;
+        --  down to room for _0; …]
         assigns ! (of-opd ! (load ! (from ! (hop ! (look ! 27 refl) (stop !))) (look-in ! 0 (whole !)))) (from ! (stop !)) (init ! 17 refl (LL.lawful T.the-type T′.the-laws 𝓤 H A W .typed h _ was .0)) $
         move ! (1 ∷ []) $ use1 W (raw (Core 𝓤 H A at-mem run .pre to-core)) goes-core $
         calls-at ! fm (Core 𝓤 H A at-mem run) known to-core (and-then ! (load ! (from ! (stop !)) (look ! 25 refl)) (and-then ! (load ! (from ! (stop !)) (look ! 23 refl)) (and-then ! (load ! (from ! (stop !)) (look ! 17 refl)) (and-then ! (load ! (from ! (stop !)) (look ! 21 refl)) (and-then ! (load ! (from ! (stop !)) (look ! 19 refl)) (no-more !)))))) (λ w.
@@ -281,14 +289,15 @@ module _ {M : Type 1} (𝓤 : URA M) (H : Heap 𝓤) (A : Atoms 𝓤) (W : Given
         peeks ! P.the-row (Is P.the-row) (shows 𝓤 H A P.the-row) r (w ∷ []) (λ is.
         land ! (from ! (stop !)) (init ! 15 refl (LL.lawful P.the-type P′.the-laws 𝓤 H A W .typed r _ is .0)) $
         rewrite ! 15 (λ (u : Val). ‵ (fat fullShare P′.mir l₇ 0 u)) (ap only (LL.tells P.the-type P′.the-laws r (w ∷ []) is)) refl $
-        -- [what a Change owns; the table's cell; the open borrow; obs; auth; true; the numbers'; _11; …; _10; …; down to room for _0; …]
+        -- [what a Change owns; the table's cell; the open borrow; obs; auth; true; the numbers'; _11; …; _10; …;
+        --  down to room for _0; …]
         assigns ! (of-opd ! (load ! (from ! (fld ! refl (stop !))) (look-in ! 15 (sub ! 2 refl (whole !))))) (from ! (stop !)) (init ! 13 refl (tt, record { fits = at-fits r w is })) $
         assigns ! (bin ! (load ! (from ! (stop !)) (look ! 13 refl)) (lit ! tt) (record { fits = times-fits r (e .0) })) (from ! (stop !)) (init ! 11 refl (tt, record { fits = times-fits r (e .0) })) $
         assigns ! (addr ! (from ! (hop ! (look ! 27 refl) (fld ! refl (stop !))))) (from ! (stop !)) (init ! 9 refl (tt, tt)) $
         assigns ! (bin ! (load ! (from ! (stop !)) (look ! 9 refl)) (load ! (from ! (stop !)) (look ! 11 refl)) tt) (from ! (stop !)) (init ! 7 refl (tt, tt)) $
         -- the one entry is stored
         assigns ! (of-opd ! (load ! (from ! (fld ! refl (stop !))) (look-in ! 15 (sub ! 3 refl (whole !))))) (from ! (hop ! (look ! 7 refl) (stop !)))
-        (store-in ! 1 (elem ! 24 (vals h) (r .at) (omega (arith, e .0, vals-long was)) (vals-long was) (sub ! 0 refl (whole !))) (LL.lawful E.the-type E′.the-laws 𝓤 H A W .typed (r .entry) _ (entry-is r w is) .0)) $
+        (store-in ! 1 (elem ! mostOperations (vals h) (r .at) (omega (arith, e .0, vals-long was)) (vals-long was) (sub ! 0 refl (whole !))) (LL.lawful E.the-type E′.the-laws 𝓤 H A W .typed (r .entry) _ (entry-is r w is) .0)) $
         rewrite ! 1 (λ (us : List Val). ‵ (fat fullShare T′.mir b o (vstruct (vcons (vstruct (ofList us)) vnil)))) (as-stored r) refl $
         assigns ! (agg ! (and-then ! (load ! (from ! (fld ! refl (stop !))) (look-in ! 15 (sub ! 0 refl (whole !)))) (and-then ! (load ! (from ! (fld ! refl (stop !))) (look-in ! 15 (sub ! 1 refl (whole !)))) (no-more !)))) (from ! (stop !)) (init ! 29 refl (tt, (record { fits = answer-fits r w is }, (record { fits = instance-fits r w is }, tt)))) $
         -- the borrow is closed at the new table

@@ -2,14 +2,15 @@
 -- Assumes nothing.
 use Prim.Native.Nat.{_≤_, _-_}
 use borrow.Author.Needs.{needs}
+use Rattle.sizes.specs.Sizes.{mostOperations}
 use Rattle.test_placing.proofs.print.table.Statement.{statement}
 use Rattle.test_placing.proofs.print.table.Tie as tie
 
 abbrev Inv-loop : tie.InvT-loop
-Inv-loop all i₀ i = i ≤ 24
+Inv-loop all i₀ i = i ≤ mostOperations
 
 abbrev μ-loop : tie.MeasureT-loop
-μ-loop all i₀ i = 24 - i
+μ-loop all i₀ i = mostOperations - i
 
 loop-holds : tie.Need-loop-holds Inv-loop μ-loop
 loop-holds c = search needs
