@@ -1,4 +1,4 @@
-"""What the benchmarks share: the product's times and search nodes through its C archive, and how numbers are summed up."""
+"""What the benchmarks share: the product's times and search nodes through its C archive; sums of numbers."""
 
 import os
 import shutil

@@ -1,6 +1,7 @@
 /* Times the plan text of each interval that leastplan asks about, through the C archive.
    Standard input: pieces, each a line bytes=N and N bytes of a sheet. Standard output, a line for each
-   interval: sheet, interval, answer, nanoseconds; 0 or 4 is a sheet's last answer. Standard error: the greatest depth of the stack. */
+   interval: sheet, interval, answer, nanoseconds; 0 or 4 is a sheet's last answer.
+   Standard error: the greatest depth of the stack. */
 #include <pthread.h>
 #include <stdint.h>
 #include <stdio.h>

@@ -130,7 +130,7 @@ def at_interval(sheet, graph, interval):
 
 
 def expected(answer, sheet):
-    """The lines for one sheet; the answer is that of reading it. A refused sheet (None) is all 0, and so out of range."""
+    """The lines for one sheet; the answer is that of reading it. A refused sheet (None) is all 0: out of range."""
     if sheet is None:
         graph, bounds = Graph([], []), [(3, 0), (3, 0)]
     else:
@@ -157,8 +157,8 @@ def chosen():
     yield 9, 9, one, [0, 0], [(0, 1, 0, 0), (0, 1, 2, 0), (0, 1, -3, 0), (1, 0, 0, 8)]  # parallel edges
     yield 9, 9, one, [0, 0], [(0, 0, 5, 1), (0, 0, 2, 1), (1, 1, -1, 0)]  # self edges
     yield 9, 9, one, [0, 0], [(1, 0, 0, 0), (0, 1, 0, 0), (1, 0, 0, 0)]  # ties between shortest loops
-    yield 9, 9, one, [0, 0, 0], [(2, 1, 0, 0), (1, 2, 0, 0), (0, 0, 0, 1), (1, 0, 9, 0)]  # a self loop at 0 only for L = 1
-    yield 9, 9, one, [0, 0, 0], [(0, 1, 0, 0), (1, 2, 0, 0), (2, 0, 0, 0), (2, 2, 0, 0)]  # the shorter loop has the greater number
+    yield 9, 9, one, [0, 0, 0], [(2, 1, 0, 0), (1, 2, 0, 0), (0, 0, 0, 1), (1, 0, 9, 0)]  # a self loop, at L = 1 alone
+    yield 9, 9, one, [0, 0, 0], [(0, 1, 0, 0), (1, 2, 0, 0), (2, 0, 0, 0), (2, 2, 0, 0)]  # shorter loop, greater number
     yield 9, 9, one, [0, 0, 0], [(1, 2, 0, 0), (2, 1, -9, 0), (0, 1, 4, 0), (1, 0, -5, 0)]  # sums exactly 0
     yield 9, 64, one, [0, 0], [(0, 1, 62, 0), (1, 0, 64, 2)]  # a bound of 64
     yield 9, 63, one, [0, 0], [(0, 1, 62, 0), (1, 0, 64, 2)]  # one below it: 8

@@ -1,6 +1,7 @@
 """Pairs of schedules for test_order, and the verdicts of the reference.
 
-A schedule is (starts, instances), 24 of each; a case is (count, first, second). crates/test_order/src/main.rt says how a case is written.
+A schedule is (starts, instances), 24 of each; a case is (count, first, second). crates/test_order/src/main.rt says how
+a case is written.
 """
 
 import itertools

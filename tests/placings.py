@@ -67,7 +67,7 @@ SIX = Sheet(4, 3, [(2, 1), (0, 1), (1, 1)], [0, 0, 1, 0, 1, 2], [])
 
 
 def single_entries():
-    """Each number of an entry at both sides of its limit, placed or not, of each kind of operation and past the operations."""
+    """Each number of an entry at both sides of its limit, placed or not, of each kind of operation and past them."""
     starts, units = (0, 1, 3, 4, 5, HUGE), (0, 1, 2, 3, HUGE)
     for i in (0, 2, 5, 6, 23):
         script = []

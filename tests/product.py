@@ -99,7 +99,7 @@ class Report:
         self.failed = False
 
     def part(self, name, differences, count):
-        """differences: a list of short texts, empty where all of the count agree; there must be something to compare."""
+        """differences: short texts, none where all of the count agree; there must be something to compare."""
         if not count:
             self.failed = True
             print("FAIL %s: nothing was compared" % name)

@@ -1,8 +1,9 @@
 #!/usr/bin/env python3
-"""Makes the stored inputs and outputs of leastplan, test_sheet, test_plan, test_placing and test_order, from the reference.
+"""Makes the stored inputs and outputs of leastplan, test_sheet, test_plan, test_placing and test_order.
 
-That of leastplan is case A of document 01, that of test_order has a case a line. The others are runs of pieces, each a line bytes=N and N bytes: a sheet, and for test_placing
-a sheet and a script by turns; the outputs have a line -- before the answer to each sheet. As a program:  stored.py   writes the files anew.
+They come from the reference. That of leastplan is case A of document 01, that of test_order has a case a line. The
+others are runs of pieces, each a line bytes=N and N bytes: a sheet, and for test_placing a sheet and a script by turns;
+the outputs have a line -- before the answer to each sheet. As a program:  stored.py   writes the files anew.
 """
 
 import os
@@ -51,7 +52,7 @@ def marked(answers):
 
 
 def read_answer(piece):
-    """What test_sheet prints for a piece: the answer, then the text written back and the writer's 9 in a short buffer."""
+    """What test_sheet prints for a piece: the answer, the text written back, the writer's 9 in a short buffer."""
     answer, sheet = ref.read_sheet(piece)
     return b"answer=%d\n" % answer + (b"" if answer else b"written=0\n" + ref.sheet_text(sheet) + b"written=9\n")
 

@@ -1,5 +1,6 @@
-// Times the crate `dependence` at 24 operations and 96 edges, beside a plain C version of the same algorithms in the same run, and prints both and
-// their ratio. First it holds the two to each other on random graphs. bench/dependence/run builds and runs it.
+// Times the crate `dependence` at 24 operations and 96 edges, beside a plain C version of the same algorithms in the
+// same run, and prints both and their ratio. First it holds the two to each other on random graphs.
+// bench/dependence/run builds and runs it.
 #include <stdbool.h>
 #include <stdint.h>
 #include <stdio.h>

@@ -1,6 +1,7 @@
 // The search of crates/search once more, plain Rust and unproved, to compare its answers and its speed with.
-// Standard input: pieces, each a line bytes=N and N bytes of a sheet (tests/product.py writes them). Standard output, a line for each
-// interval up to the first plan: sheet, interval, answer, nanoseconds of processor time, search nodes, starts.
+// Standard input: pieces, each a line bytes=N and N bytes of a sheet (`framed` in tests/stored.py). Standard output, a
+// line for each interval up to the first plan: sheet, interval, answer, nanoseconds of processor time, search nodes,
+// starts.
 use std::io::Read;
 
 const OPS: usize = 24;

@@ -1,5 +1,7 @@
 #!/usr/bin/env python3
-"""The product beside the plain search (plain.rs): the same sheets, the same intervals, in one run, by processor time (the least of five).
+"""The product beside the plain search (plain.rs).
+
+The same sheets, the same intervals, in one run, by processor time (the least of five).
 
     ratio.py [SHEETS [SEED]]
 
