@@ -21,9 +21,13 @@ fourDigits = 9999
 abbrev pub longestKey : ℕ
 longestKey = 9
 
--- bytes of a number: ten digits and a minus
+-- digits of a number below 2 to the power 32
+abbrev pub mostDigits : ℕ
+mostDigits = 10
+
+-- bytes of a number: its digits and a minus
 abbrev pub longestNumber : ℕ
-longestNumber = 11
+longestNumber = mostDigits + 1
 
 -- bytes of a line: its key, and its numbers with a byte after each
 abbrev pub longestLine : ℕ
