@@ -1,5 +1,5 @@
--- From the search's task to the plan of the papers: counts in a slot from instances, instances from counts, and the first
--- plan from the first starts. Assumes nothing.
+-- From the search's task to the plan of the papers: counts in a slot from instances, instances from counts, and the
+-- first plan from the first starts. Assumes nothing.
 use mathlib.Core.Path.{_≡_, refl, sym, ap, subst, _∙_}
 use mathlib.Core.Bool.{Bool, true, false}
 use mathlib.Core.Logic.{_⊎_, inl, inr, ⊎-elim}

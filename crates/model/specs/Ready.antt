@@ -1,5 +1,5 @@
--- A task for a sheet in range is ready for the search: its numbers are within its arrays, and every plan keeps its lags.
--- Assumes nothing.
+-- A task for a sheet in range is ready for the search: its numbers are within its arrays, and every plan keeps its
+-- lags. Assumes nothing.
 use mathlib.Core.Path.{sym, subst}
 use mathlib.Core.List.{List}
 use Prim.Native.Nat.{ℕ, _<_, _≤_}

@@ -60,8 +60,8 @@ pub fn rivals(sheet: Sheet, i: usize, j: usize) -> bool
     0 < instances_of(sheet, i)
 }
 
-// The slot of a start: its remainder by the interval. There are no slots at interval 0, where the remainder is the start
-// itself.
+// The slot of a start: its remainder by the interval. There are no slots at interval 0, where the remainder is the
+// start itself.
 pub fn slot_of(interval: usize, start: usize) -> usize
     ensures { λ r. ⌜ r ≡ slot interval start ⌝ }
 {

@@ -1,5 +1,5 @@
--- At most one answer of the check fits; a yes is a plan, a plan gets a yes, and so does what the plan at an interval gives.
--- Assumes nothing.
+-- At most one answer of the check fits; a yes is a plan, a plan gets a yes, and so does what the plan at an interval
+-- gives. Assumes nothing.
 use mathlib.Core.Path.{_≡_, sym, ap, ap₂, _∙_}
 use mathlib.Core.Bool.{Bool, true}
 use Prim.Native.Nat.{ℕ}
@@ -15,12 +15,11 @@ use Rattle.plan.specs.Exactly.{accepted-given, given-first}
 use Rattle.verify.specs.declared.Checked.{Checked}
 use Rattle.verify.specs.Check.{checkRefused, Decided, CheckedAt}
 
--- ---- the answers
-
 -- 0, and whether it is a plan
 abbrev pub checked : Bool → Checked
 checked b = record { answer = 0; plan = b }
 
+-- an answer from its two parts
 made : ℕ → Bool → Checked
 made n b = record { answer = n; plan = b }
 
@@ -33,11 +32,13 @@ module _ {s : Sheet} {L : ℕ} {t u : ℕ → ℕ} where
   checked-unique = at-interval-one checkRefused decided-one
 
   module _ {a : Checked} where
+    -- a yes is a plan, of an accepted sheet and interval
     pub yes-plan : CheckedAt s L t u a → a .plan ≡ true → Accepted s L × Plan s L t u
     yes-plan (at-no n e) y = true-false (sym y ∙ ap (λ (c : Checked). c .plan) e)
     yes-plan (at-yes ok (at-no n e)) y = true-false (sym y ∙ ap (λ (c : Checked). c .plan) e)
     yes-plan (at-yes ok (at-yes iv d)) y = (record { sheet = ok; interval = iv }, d .says .yes y)
 
+    -- and there a plan gets a yes
     pub plan-yes : Accepted s L → Plan s L t u → CheckedAt s L t u a → a ≡ checked true
     unfolding made
     plan-yes y p (at-no n e) = absurd (n (y .sheet))

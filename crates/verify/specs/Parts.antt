@@ -1,5 +1,5 @@
--- The rules of a plan, each for all operations, edges or pairs: what the parts of the check decide, and that together they
--- are a plan. Assumes nothing.
+-- The rules of a plan, each for all operations, edges or pairs: what the parts of the check decide, and that together
+-- they are a plan. Assumes nothing.
 use mathlib.Core.Path.{_≡_, sym}
 use Prim.Native.Nat.{ℕ, _<_}
 use native.Mathlib.Omega.{arith}
@@ -18,9 +18,11 @@ use Rattle.sheet.specs.Facts.{horizon-most}
 use Rattle.plan.specs.Pairs.{rivals-back, overlap-back}
 use Rattle.plan.specs.Rules.{Plan, StartAllowed, InstanceAllowed, Rivals, Overlap}
 
+-- each operation may have its start
 abbrev pub EachStart : Sheet → ℕ → (ℕ → ℕ) → Type 0
 EachStart s L t = (i : ℕ) → i < s .«op_count» → StartAllowed s L i (t i)
 
+-- each operation may have its instance
 abbrev pub EachInstance : Sheet → (ℕ → ℕ) → Type 0
 EachInstance s u = (i : ℕ) → i < s .«op_count» → InstanceAllowed s i (u i)
 
@@ -42,6 +44,7 @@ pub record Clash (s : Sheet) (L : ℕ) (t u : ℕ → ℕ) (i j : ℕ) : Type 0 
 abbrev pub Apart : Sheet → ℕ → (ℕ → ℕ) → (ℕ → ℕ) → ℕ → Type 0
 Apart s L t u i = (j : ℕ) → j < i → Clash s L t u i j → ⊥
 
+-- no two operations clash
 abbrev pub AllApart : Sheet → ℕ → (ℕ → ℕ) → (ℕ → ℕ) → Type 0
 AllApart s L t u = (i : ℕ) → i < s .«op_count» → Apart s L t u i
 

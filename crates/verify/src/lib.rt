@@ -1,6 +1,6 @@
 // Whether starts and instances that somebody hands in are a plan: each rule of `plan/specs/Rules` by a test of its own.
 // `is_plan` puts the questions about the sheet and the interval first. `holds` is for services that have put them: it
-// asks for a sheet in range and an interval up to the cap.
+// asks for a sheet in range and an interval up to the cap. Caller today: `is_plan`, once `sheet::asked` has answered 0.
 ghost use Rattle.laws.specs.Entry.{vec};
 ghost use Rattle.laws.specs.Says.{Says};
 ghost use Rattle.sheet.specs.Sheet.{InRange, Interval};
