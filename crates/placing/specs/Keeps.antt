@@ -12,9 +12,9 @@ use Rattle.sizes.specs.Sizes.{mostOperations}
 use Rattle.laws.specs.Z.{true-false}
 use Rattle.laws.specs.Store.{store}
 use Rattle.sheet.specs.declared.Sheet.{Sheet}
-use Rattle.sheet.specs.Sheet.{typeAt}
 use Rattle.sheet.specs.Questions.{at-no, at-yes}
-use Rattle.plan.specs.Rules.{Rivals, Overlap}
+use Rattle.plan.specs.Rules.{Overlap}
+use Rattle.plan.specs.Pairs.{rivals-back, overlap-back}
 use Rattle.placing.specs.declared.Placement.{Placement}
 use Rattle.placing.specs.declared.Table.{Table}
 use Rattle.placing.specs.declared.NewTable.{NewTable}
@@ -34,14 +34,6 @@ empty-consistent s L = record {
   entries = λ i. subst (EntryAllowed s L i) (sym (empty-at i)) (empty-allowed refl refl refl);
   apart = λ i p. true-false (sym p ∙ ap (λ (x : Placement). x .placed) (empty-at i));
 }
-
--- ---- rivals and what they must not share, the other way round
-
-rivals-back : {s : Sheet} {i j : ℕ} → Rivals s i j → Rivals s j i
-rivals-back {s} r = record { different = λ e. r .different (sym e); oneType = sym (r .oneType); limited = subst (λ (k : ℕ). 0 < typeAt s k .instances) (r .oneType) (r .limited) }
-
-overlap-back : (s : Sheet) (L i t j t' : ℕ) → Overlap s L i t j t' → Overlap s L j t' i t
-overlap-back s L i t j t' e = sym e
 
 -- ---- one operation more
 
