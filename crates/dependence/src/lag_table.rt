@@ -37,10 +37,8 @@ fn lag_row(ops: usize, starts: [usize; MOST_OPERATIONS]) -> [i32; MOST_OPERATION
     ensures { λ r. ⌜ LagCells ops starts r ⌝ }
 {
     let mut out = [0i32; MOST_OPERATIONS];
-    let mut j: usize = 0;
-    while j < ops {
+    for j in 0..ops {
         out[j] = lag(starts[j]);
-        j += 1;
     }
     out
 }
@@ -51,21 +49,17 @@ pub fn lags(graph: Graph, interval: usize) -> [[i32; MOST_OPERATIONS]; MOST_OPER
     ensures { λ r. ⌜ TableAnswer graph interval (Lags graph interval) r ⌝ }
 {
     let mut out = [[0i32; MOST_OPERATIONS]; MOST_OPERATIONS];
-    if in_range(graph) {
-        if interval_ok(interval) {
-            let net = net_of(graph, interval);
-            let ops = graph.ops;
-            let mut i: usize = 0;
-            while i < ops {
-                let f = peak(i);
-                let s = settle(net, f);
-                if s.bad {
-                    return [[0; MOST_OPERATIONS]; MOST_OPERATIONS];
-                }
-                let at = s.at;
-                out[i] = lag_row(ops, at);
-                i += 1;
+    if in_range(graph) && interval_ok(interval) {
+        let net = net_of(graph, interval);
+        let ops = graph.ops;
+        for i in 0..ops {
+            let f = peak(i);
+            let s = settle(net, f);
+            if s.bad {
+                return [[0; MOST_OPERATIONS]; MOST_OPERATIONS];
             }
+            let at = s.at;
+            out[i] = lag_row(ops, at);
         }
     }
     out

@@ -1,6 +1,7 @@
 -- `dependence::bound::recurrence_bound` meets its contract: each interval below l has a bad closed walk, by what
 -- `settle` says at it. Assumes nothing.
 use mathlib.Core.Path.{refl}
+use mathlib.Core.Logic.{⊎-elim}
 use mathlib.Core.List.{List}
 use Prim.Native.Nat.{ℕ, _+_, _≤_, _<_, _-_}
 use native.Mathlib.Omega.{arith}
@@ -68,10 +69,8 @@ returns-2 c = let l = c .before .loop in
     bound-eight refl refl (c .before .before .before .before .before .in-range .ensures .yes (c .before .before .before .before .if1 .taken)) (c .before .before .before .interval-ok .ensures .yes (c .before .before .if2 .taken)) (λ i a h. l .inv .2 i a (omega (arith, c .loop-test .left, h)))
 
 returns-3 : tie.Need-returns-3 Inv-loop μ-loop
-returns-3 c = bound-three refl refl (λ x. c .before .interval-ok .ensures .no (c .if2 .left) (x .1))
-
-returns-4 : tie.Need-returns-4 Inv-loop μ-loop
-returns-4 c = bound-three refl refl (λ x. c .before .in-range .ensures .no (c .if1 .left) (x .0))
+returns-3 c = bound-three refl refl
+    (λ x. ⊎-elim (λ w. w .1 .ensures .no (w .2 .left) (x .1)) (λ w. c .before .in-range .ensures .no (w .left) (x .0)) (c .if1 .came))
 
 pub recurrence-bound-spec : {M : Type 1} → statement M
 recurrence-bound-spec =
@@ -89,5 +88,4 @@ recurrence-bound-spec =
     loop-again
     returns
     returns-2
-    returns-3
-    returns-4)
+    returns-3)

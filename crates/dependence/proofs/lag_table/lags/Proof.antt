@@ -1,6 +1,7 @@
 -- `dependence::lag_table::lags` meets its contract: the rows below i are lags (`LagIn`), the others 0.
 -- Assumes nothing.
 use mathlib.Core.Path.{_≡_, _∙_, refl}
+use mathlib.Core.Logic.{⊎-elim}
 use mathlib.Core.List.{[]}
 use Prim.Native.Nat.{ℕ, _≤_, _<_, _-_}
 use native.Mathlib.Omega.{arith}
@@ -96,10 +97,8 @@ returns-2 c = let l = c .before .loop in
     (record { rows = λ i h. lag-row a (l .inv .2 i (omega (arith, c .loop-test .left, h))); rest = λ i h k. l .inv .3 i (omega (arith, l .inv .0, h)) k })
 
 returns-3 : tie.Need-returns-3 Inv-loop μ-loop
-returns-3 c = table-refused refl (λ x. c .before .interval-ok .ensures .no (c .if2 .left) (x .1))
-
-returns-4 : tie.Need-returns-4 Inv-loop μ-loop
-returns-4 c = table-refused refl (λ x. c .before .in-range .ensures .no (c .if1 .left) (x .0))
+returns-3 c = table-refused refl
+    (λ x. ⊎-elim (λ w. w .1 .ensures .no (w .2 .left) (x .1)) (λ w. c .before .in-range .ensures .no (w .left) (x .0)) (c .if1 .came))
 
 pub lags-spec : {M : Type 1} → statement M
 lags-spec =
@@ -121,5 +120,4 @@ lags-spec =
     loop-less
     loop-again
     returns-2
-    returns-3
-    returns-4)
+    returns-3)

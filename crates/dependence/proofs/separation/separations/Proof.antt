@@ -1,6 +1,7 @@
 -- `dependence::separation::separations` meets its contract: `settle` says that no closed walk is bad, `greatest` gives
 -- the sums. Assumes nothing.
 use mathlib.Core.Path.{refl}
+use mathlib.Core.Logic.{⊎-elim}
 use native.Mathlib.Omega.{arith}
 use borrow.Author.Needs.{needs}
 use Rattle.net.specs.Meets.{meets-none}
@@ -46,10 +47,8 @@ returns-2 c = let t = c .before .before .before .before in
     (record { cells = λ i j hi hj. to-cell _ _ i j _ (cell-agree a i j _ (c .greatest .ensures .cells i j hi hj)) })
 
 returns-3 : tie.Need-returns-3
-returns-3 c = table-refused refl (λ x. c .before .interval-ok .ensures .no (c .if2 .left) (x .1))
-
-returns-4 : tie.Need-returns-4
-returns-4 c = table-refused refl (λ x. c .before .in-range .ensures .no (c .if1 .left) (x .0))
+returns-3 c = table-refused refl
+    (λ x. ⊎-elim (λ w. w .1 .ensures .no (w .2 .left) (x .1)) (λ w. c .before .in-range .ensures .no (w .left) (x .0)) (c .if1 .came))
 
 pub separations-spec : {M : Type 1} → statement M
 separations-spec =
@@ -62,5 +61,4 @@ separations-spec =
     returns
     greatest-requires
     returns-2
-    returns-3
-    returns-4)
+    returns-3)
