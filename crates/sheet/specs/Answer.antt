@@ -45,16 +45,19 @@ edgeAnswer ops e = ask (edge-decided ops e) 3 0
 
 -- ---- the lines of a sheet in their order; entries past the counts have none
 
--- the line with the count, then its lines
+-- `types=R`, then R lines
 abbrev pub typesAnswer : Sheet → ℕ
 typesAnswer s = first (numberAnswer range.types (s .«type_count»)) (firstOf (s .«type_count») (λ r. typeAnswer (typeAt s r)))
 
+-- `ops=N`, then N lines
 abbrev pub opsAnswer : Sheet → ℕ
 opsAnswer s = first (numberAnswer range.operations (s .«op_count»)) (firstOf (s .«op_count») (λ i. opAnswer (s .«type_count») (opAt s i)))
 
+-- `edges=E`, then E lines
 abbrev pub edgesAnswer : Sheet → ℕ
 edgesAnswer s = first (numberAnswer range.edges (s .«edge_count»)) (firstOf (s .«edge_count») (λ k. edgeAnswer (s .«op_count») (edgeAt s k)))
 
+-- the whole sheet: the first line that refuses answers for it
 unfoldable pub sheetAnswer : Sheet → ℕ
 sheetAnswer s =
     first (numberAnswer range.horizon (s .horizon)) (

@@ -31,6 +31,7 @@ AskedAt s L = AtInterval (λ (n : ℕ). n) s L (Is 0)
 
 -- ---- at most one answer fits
 
+-- F holds of one answer at the most
 abbrev pub One : {A : Type 0} → (A → Type 0) → Type 0
 One {A} F = (a b : A) → F a → F b → a ≡ b
 
