@@ -45,12 +45,10 @@ fn push_round(net: Net, t: [usize; MOST_OPERATIONS]) -> [usize; MOST_OPERATIONS]
 {
     let mut out = t;
     let count = net.count as usize;
-    let mut e: usize = 0;
-    while e < count {
+    for e in 0..count {
         let i = net.from[e] as usize;
         let j = net.to[e] as usize;
         out[j] = pushed(out[i], net.weight[e], out[j]);
-        e += 1;
     }
     out
 }
