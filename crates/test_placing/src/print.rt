@@ -1,16 +1,9 @@
 // Lines on standard output: a key and the numbers of an answer.
-use libc::STDOUT_FILENO;
 use placing::Placement;
 use placing::Table;
 use sizes::MOST_OPERATIONS;
-
-fn text(s: &[u8]) {
-    io::write_all(STDOUT_FILENO, s);
-}
-
-fn number(n: usize) {
-    io::print_decimal(STDOUT_FILENO, n as u64);
-}
+use test_print::number;
+use test_print::text;
 
 fn flag(yes: bool) {
     if yes {
@@ -22,9 +15,7 @@ fn flag(yes: bool) {
 
 // The answer of a new table.
 pub fn made(answer: usize) {
-    text(b"new=");
-    number(answer);
-    text(b"\n");
+    test_print::line(b"new=", answer);
 }
 
 // Whether a table is consistent.
@@ -36,11 +27,7 @@ pub fn verdict(consistent: bool) {
 
 // The answer of a placing, and the instance.
 pub fn placed(answer: usize, instance: usize) {
-    text(b"place=");
-    number(answer);
-    text(b",");
-    number(instance);
-    text(b"\n");
+    test_print::pair(b"place=", answer, instance);
 }
 
 fn is_nothing(p: Placement) -> bool {

@@ -1,41 +1,24 @@
 // Reads each piece of standard input as a sheet and prints its answer; of an accepted sheet also the text written back,
 // and what the writer answers in a buffer one byte too short.
 use libc::STDIN_FILENO;
-use libc::STDOUT_FILENO;
 use sheet::Sheet;
 
 // The most bytes of standard input that are looked at.
 const INPUT: usize = 262144;
 
-fn wide(n: usize) -> u64 {
-    n as u64
-}
-
-fn print_line(key: &[u8], n: usize) {
-    io::write_all(STDOUT_FILENO, key);
-    io::print_decimal(STDOUT_FILENO, wide(n));
-    io::write_all(STDOUT_FILENO, b"\n");
-}
-
-fn print_front(out: &[u8], n: usize) {
-    if n <= out.len() {
-        io::write_all(STDOUT_FILENO, &out[..n]);
-    }
-}
-
 // What the writer answers in the first n bytes of a buffer.
 fn write_short(sheet: Sheet, out: &mut [u8], n: usize) {
     if n <= out.len() {
         let written = writer::write(sheet, &mut out[..n]);
-        print_line(b"written=", written.answer);
+        test_print::line(b"written=", written.answer);
     }
 }
 
 fn write_back(sheet: Sheet) {
     let mut out = io::buffer();
     let written = writer::write(sheet, &mut out);
-    print_line(b"written=", written.answer);
-    print_front(&out, written.count);
+    test_print::line(b"written=", written.answer);
+    test_print::front(&out, written.count);
     if 0 < written.count {
         write_short(sheet, &mut out, written.count - 1);
     }
@@ -43,7 +26,7 @@ fn write_back(sheet: Sheet) {
 
 fn answer_sheet(bytes: &[u8]) {
     let read = reader::read(bytes);
-    print_line(b"--\nanswer=", read.answer);
+    test_print::line(b"--\nanswer=", read.answer);
     if read.answer == 0 {
         let sheet = read.sheet;
         write_back(sheet);

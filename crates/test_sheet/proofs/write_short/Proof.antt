@@ -14,11 +14,11 @@ slice-aggregate-write c = search (needs, length-take-le)
 write-requires : tie.Need-write-requires
 write-requires c κs = search needs
 
-slice-aggregate-print-line : tie.Need-slice-aggregate-print-line
-slice-aggregate-print-line c = search needs
+slice-aggregate-line : tie.Need-slice-aggregate-line
+slice-aggregate-line c = search needs
 
-print-line-requires : tie.Need-print-line-requires
-print-line-requires c κs = search needs
+line-requires : tie.Need-line-requires
+line-requires c κs = search needs
 
 same-length : tie.Need-same-length
 same-length c = search needs
@@ -36,8 +36,8 @@ write-short-spec =
     slice-relend-prefix-write
     slice-aggregate-write
     write-requires
-    slice-aggregate-print-line
-    print-line-requires
+    slice-aggregate-line
+    line-requires
     same-length
     returns
     returns-2)
