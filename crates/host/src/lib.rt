@@ -1,4 +1,5 @@
-// C calls on the bytes of a sheet: least interval, plan text, slot order. They read the sheet and call the service; include/leastplan.h describes them.
+// C calls on the bytes of a sheet: least interval, plan text, slot order. They read the sheet and call the service;
+// include/leastplan.h describes them.
 ghost use Rattle.host.specs.Calls.{LeastOf, PlanTextOf, SlotOrderOf};
 use plan::IntervalAnswer;
 use text::Written;

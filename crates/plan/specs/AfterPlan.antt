@@ -1,5 +1,5 @@
--- Services that ask for the plan at an interval first: its refusal is theirs, and with the plan given they go on. Definitions, then laws.
--- Assumes nothing.
+-- Services that ask for the plan at an interval first: its refusal is theirs, and with the plan given they go on.
+-- Definitions, then laws. Assumes nothing.
 use mathlib.Core.Path.{_≡_, sym, ap, subst, _∙_}
 use Prim.Native.Nat.{ℕ}
 use native.Mathlib.Omega.{arith}
@@ -18,7 +18,8 @@ pub record WithPlan {A : Type 0} (s : Sheet) (L : ℕ) (Then : PlanAnswer → A 
   pub given : Given s L plan
   pub then : Then plan a
 
--- the sheet's questions and 4, 5 and 6, each refusal as the plan's answer `made` into one of the service, then the rest with the plan given
+-- the sheet's questions and 4, 5 and 6, each refusal as the plan's answer `made` into one of the service, then the rest
+-- with the plan given
 abbrev pub AfterPlan : {A : Type 0} → (PlanAnswer → A) → Sheet → ℕ → (PlanAnswer → A → Type 0) → A → Type 0
 AfterPlan made s L Then =
     AtInterval (λ n. made (refused n)) s L

@@ -1,5 +1,5 @@
--- Demand 3 in one place: for a sheet in range and an interval, what the plan at that interval answers, in both directions; and what an answer 0, or another,
--- tells of the input. Assumes nothing.
+-- Demand 3 in one place: for a sheet in range and an interval, what the plan at that interval answers, in both
+-- directions; and what an answer 0, or another, tells of the input. Assumes nothing.
 use mathlib.Core.Path.{_≡_, refl, sym, ap, subst, _∙_}
 use mathlib.Core.Logic.{_⊎_, inl, inr}
 use Prim.Native.Nat.{ℕ}
@@ -16,7 +16,8 @@ use Rattle.plan.specs.declared.PlanAnswer.{PlanAnswer}
 use Rattle.plan.specs.Rules.{Plan}
 use Rattle.plan.specs.Answers.{HasPlan, First, Given, PlanAt}
 
--- 0 exactly when there is a plan, and then the first; 5 exactly when no whole-number starts keep the dependences; else 6
+-- 0 exactly when there is a plan, and then the first; 5 exactly when no whole-number starts keep the dependences; else
+-- 6
 pub record Decides (s : Sheet) (L : ℕ) (r : PlanAnswer) : Type 0 where
   pub number : (r .answer ≡ 0) ⊎ ((r .answer ≡ 5) ⊎ (r .answer ≡ 6))
   pub plan : r .answer ≡ 0 → First s L (vec (r .starts)) (vec (r .instances))

@@ -1,4 +1,5 @@
--- Entries past R, N or E are no part of a sheet: sheets that differ only there get the same texts of plans. Assumes nothing.
+-- Entries past R, N or E are no part of a sheet: sheets that differ only there get the same texts of plans. Assumes
+-- nothing.
 use mathlib.Core.Path.{_≡_, sym, ap, subst}
 use mathlib.Core.Bool.{cond}
 use mathlib.Core.List.{List, [], _∷_}

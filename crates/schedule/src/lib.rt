@@ -48,7 +48,8 @@ fn first_plan(sheet: Sheet, graph: Graph, interval: usize) -> PlanAnswer
     refusal(6)
 }
 
-// The plan at an interval that comes before every other, or why there is none: the sheet's refusal, 4, 5 with the first bad closed walk, 6.
+// The plan at an interval that comes before every other, or why there is none: the sheet's refusal, 4, 5 with the first
+// bad closed walk, 6.
 pub fn plan_at(sheet: Sheet, interval: usize) -> PlanAnswer
     ensures { λ r. ⌜ PlanAt sheet interval r ⌝ }
 {

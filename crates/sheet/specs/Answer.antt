@@ -1,5 +1,5 @@
--- What the numbers of a line answer, and those of a whole sheet: 0, or the number of the first question that gets a no. The lines are gone through in
--- their order. A reader and a sheet handed in as numbers are judged by these.
+-- What the numbers of a line answer, and those of a whole sheet: 0, or the number of the first question that gets a no.
+-- The lines are gone through in their order. A reader and a sheet handed in as numbers are judged by these.
 use Prim.Native.Nat.{ℕ, zero, suc}
 use lib.IntN.{pos}
 use Rattle.dependence.specs.declared.Edge.{Edge}

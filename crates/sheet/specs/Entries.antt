@@ -1,5 +1,5 @@
--- In a sheet handed over as numbers, entries past R, N or E are no part of it: sheets that differ only there get the same answer to the sheet's own
--- questions, and have the same dependences and bad closed walks. Assumes nothing.
+-- In a sheet handed over as numbers, entries past R, N or E are no part of it: sheets that differ only there get the
+-- same answer to the sheet's own questions, and have the same dependences and bad closed walks. Assumes nothing.
 use mathlib.Core.Path.{_≡_, refl, sym, ap, ap₂, subst, _∙_}
 use mathlib.Core.List.{List, _∷_}
 use Prim.Native.Nat.{ℕ, zero, suc, _<_}
@@ -22,7 +22,8 @@ use Rattle.sheet.specs.AnswerLaws.{sheet-in, sheet-inside}
 use Rattle.sheet.specs.Questions.{Asked, at-no, at-yes, OnSheet, AtInterval}
 use Rattle.sheet.specs.Loop.{Feasible, Loop, IfFeasible}
 
--- the same horizon, cap, counts and entries below the counts; the arrays of operations have one size, that of every sheet (24)
+-- the same horizon, cap, counts and entries below the counts; the arrays of operations have one size, that of every
+-- sheet (24)
 pub record SameSheet (s s' : Sheet) : Type 0 where
   pub horizon : s .horizon ≡ s' .horizon
   pub cap : s .cap ≡ s' .cap

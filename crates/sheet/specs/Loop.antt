@@ -1,5 +1,5 @@
--- Question 5 of a sheet at an interval, and the edges of its refusal: the first bad closed walk, in an array of 24 edge numbers.
--- Definitions first, then laws. Assumes nothing.
+-- Question 5 of a sheet at an interval, and the edges of its refusal: the first bad closed walk, in an array of 24 edge
+-- numbers. Definitions first, then laws. Assumes nothing.
 use mathlib.Core.Path.{_≡_, sym, ap, ap₂, subst, _∙_}
 use mathlib.Core.List.{List}
 use Prim.Native.Nat.{ℕ, _<_, _≤_}

@@ -17,7 +17,8 @@ pub data Asked {A : Type 0} (P : Type 0) (No Then : A → Type 0) : A → Type 0
 abbrev pub Is : {A : Type 0} → A → A → Type 0
 Is r a = a ≡ r
 
--- the questions about the sheet, line by line (`Answer.sheetAnswer`), then the rest; `refused` makes an answer of a refusal's number
+-- the questions about the sheet, line by line (`Answer.sheetAnswer`), then the rest; `refused` makes an answer of a
+-- refusal's number
 abbrev pub OnSheet : {A : Type 0} → (ℕ → A) → Sheet → (A → Type 0) → A → Type 0
 OnSheet refused s Then = Asked (InRange s) (Is (refused (sheetAnswer s))) Then
 

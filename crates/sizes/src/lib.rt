@@ -1,4 +1,5 @@
-// The sizes of a loop sheet's parts, and so of the arrays that hold them (the table of ranges in 01). specs/ has them as numbers for contracts.
+// The sizes of a loop sheet's parts, and so of the arrays that hold them (the table of ranges in 01). specs/ has them
+// as numbers for contracts.
 
 // Operations: the greatest N.
 pub const MOST_OPERATIONS: usize = 24;

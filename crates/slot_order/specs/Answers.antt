@@ -1,4 +1,5 @@
--- Slot order: its questions in order, then the whole answer with what makes it right, in terms of the plan at the interval.
+-- Slot order: its questions in order, then the whole answer with what makes it right, in terms of the plan at the
+-- interval.
 use Prim.Native.Nat.{ℕ, _<_}
 use mathlib.Core.Path.{_≡_}
 use Rattle.laws.specs.Entry.{zeros, vec}

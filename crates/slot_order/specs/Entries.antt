@@ -1,4 +1,5 @@
--- Entries past R, N or E are no part of a sheet: sheets that differ only there get the same slot orders. Assumes nothing.
+-- Entries past R, N or E are no part of a sheet: sheets that differ only there get the same slot orders. Assumes
+-- nothing.
 use mathlib.Core.Path.{_≡_, sym, subst}
 use Prim.Native.Nat.{ℕ, _<_}
 use native.Mathlib.Omega.{arith}

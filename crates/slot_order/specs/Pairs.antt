@@ -1,5 +1,5 @@
--- Pair numbers: operations i < j form pair j × (j − 1) / 2 + i. The table of the first pair number for each j, its rule, and what follows from it.
--- Assumes nothing.
+-- Pair numbers: operations i < j form pair j × (j − 1) / 2 + i. The table of the first pair number for each j, its
+-- rule, and what follows from it. Assumes nothing.
 use mathlib.Core.Path.{_≡_, refl, sym, ap, subst, _∙_}
 use mathlib.Core.Bool.{Bool, true, false, cond}
 use mathlib.Core.List.{List, [], _∷_}

@@ -121,8 +121,8 @@ fn order_in(sheet: Sheet, interval: usize, pair: usize, plan: PlanAnswer) -> Slo
     }
 }
 
-// The slot order of a pair of operations in the plan at an interval, or why there is none: the plan's refusal (for 5 with the first
-// bad closed walk), 14, 15.
+// The slot order of a pair of operations in the plan at an interval, or why there is none: the plan's refusal (for 5
+// with the first bad closed walk), 14, 15.
 pub fn slot_order(sheet: Sheet, interval: usize, pair: usize) -> SlotOrder
     ensures { λ r. ⌜ SlotOrderAt sheet interval pair r ⌝ }
 {

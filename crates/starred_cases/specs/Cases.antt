@@ -1,4 +1,5 @@
--- The starred cases hold: one computed test over the whole table, and the law that turns it into the claim at each row. Assumes nothing.
+-- The starred cases hold: one computed test over the whole table, and the law that turns it into the claim at each row.
+-- Assumes nothing.
 use mathlib.Core.Path.{_≡_, refl}
 use mathlib.Core.Bool.{Bool, true, false}
 use mathlib.Core.List.{List, [], _∷_}

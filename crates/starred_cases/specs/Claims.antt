@@ -59,8 +59,8 @@ planOf ts us = planned (padded mostOperations 0 ts) (padded mostOperations 0 us)
 abbrev pub loopOf : List ℕ → PlanAnswer
 loopOf ks = looped (length ks) (padded mostOperations 0 ks)
 
--- what a claim states: the answer of a service with every number beside it, also of every interval or of every sheet in range, or that a pair number passes
--- question 14 with N operations
+-- what a claim states: the answer of a service with every number beside it, also of every interval or of every sheet in
+-- range, or that a pair number passes question 14 with N operations
 abbrev pub Stated : Claim → Type 0
 Stated refuses-outside = (s : Sheet) → InRange s → PlanAt s 0 (refused 4) × PlanAt s (s .cap + 1) (refused 4)
 Stated (refuses-walk s L ks) = PlanAt s L (loopOf ks)

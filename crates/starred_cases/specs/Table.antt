@@ -1,4 +1,5 @@
--- The starred cases of document 01: one table of claims about the rules. The sheets are as a reader gives them, with 0 past their counts.
+-- The starred cases of document 01: one table of claims about the rules. The sheets are as a reader gives them, with 0
+-- past their counts.
 use mathlib.Core.List.{List, [], _∷_}
 use Prim.Native.Nat.{ℕ}
 use lib.IntN.{ℤ, pos, negsuc}

@@ -1,4 +1,5 @@
--- Tests that compute: of the sheet's ranges, of the rules of a plan, of the order of plans, and of bad closed walks. Exhaustive, and only for small sheets.
+-- Tests that compute: of the sheet's ranges, of the rules of a plan, of the order of plans, and of bad closed walks.
+-- Exhaustive, and only for small sheets.
 use mathlib.Core.Bool.{Bool, true, false, cond, not}
 use mathlib.Core.List.{List, [], _∷_}
 use Prim.Native.Nat.{ℕ, zero, suc, _+_, _%_}

@@ -1,6 +1,6 @@
 // Compares the two schedules on each line of standard input, and prints the verdict.
-// A line has a count, then starts and instances of the first schedule, then those of the second; a space stands before each list of 24.
-// Each number is one character: its code less that of 0. A tilde is the greatest number there is.
+// A line has a count, then starts and instances of the first schedule, then those of the second; a space stands before
+// each list of 24. Each number is one character: its code less that of 0. A tilde is the greatest number there is.
 use libc::STDIN_FILENO;
 use libc::STDOUT_FILENO;
 use plan::Schedule;

@@ -55,7 +55,8 @@ StartsAt s L = AtInterval startsRefused s L (IfFeasible startsLoop s L (Earliest
 
 -- ---- separations
 
--- a refused table has 0 in every cell; the number of the refusal is that of `WalkAt`, and `Unique.separations-answered` ties the table to it
+-- a refused table has 0 in every cell; the number of the refusal is that of `WalkAt`, and `Unique.separations-answered`
+-- ties the table to it
 abbrev pub tableRefused : ℕ → List (List ℤ)
 tableRefused n = zeroTable
 

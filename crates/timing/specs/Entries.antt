@@ -1,4 +1,5 @@
--- Entries past R, N or E are no part of a sheet: sheets that differ only there get the same answers of the timing services. Assumes nothing.
+-- Entries past R, N or E are no part of a sheet: sheets that differ only there get the same answers of the timing
+-- services. Assumes nothing.
 use mathlib.Core.Path.{_≡_, sym, subst, _∙_}
 use mathlib.Core.List.{List}
 use Prim.Native.Nat.{ℕ}

@@ -1,5 +1,5 @@
--- At most one answer fits an input: the sheet and the interval tell each answer of the services. And the answer number of the separations, which
--- `bad_walk` gives, tells what their table holds. Assumes nothing.
+-- At most one answer fits an input: the sheet and the interval tell each answer of the services. And the answer number
+-- of the separations, which `bad_walk` gives, tells what their table holds. Assumes nothing.
 use mathlib.Core.Path.{_≡_, refl, sym, ap, _∙_}
 use mathlib.Core.List.{List, []}
 use Prim.Native.Nat.{ℕ, _<_, _≤_}
@@ -66,7 +66,8 @@ module _ {s : Sheet} {L : ℕ} where
       at (at-yes _ (at-yes _ (at-yes f _))) (at-yes _ (at-yes _ (at-no n q))) = absurd (n f)
       at (at-yes r (at-yes i (at-yes f x))) (at-yes _ (at-yes _ (at-yes _ y))) = one r i f x y
 
-  -- the two functions of the separations: where `bad_walk` answers 0, the table holds the greatest sums, and where it refuses, every cell is 0
+  -- the two functions of the separations: where `bad_walk` answers 0, the table holds the greatest sums, and where it
+  -- refuses, every cell is 0
   pub separations-answered : {w : loops.BadWalk} {t : List (List ℤ)} → WalkAt s L w → SeparationsAt s L t
       → (w .answer ≡ 0 → Feasible s L × Separations (graphOf s) L t) × ((w .answer ≡ 0 → ⊥) → t ≡ zeroTable)
   separations-answered (at-no n e) (at-no _ q) = (λ z. absurd (sheet-out s n (sym (answered e) ∙ z)), λ _. q)

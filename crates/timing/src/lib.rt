@@ -1,5 +1,5 @@
-// The timing services on a loop sheet: earliest starts (ASAP), separations (MinDist) and the recurrence bound (RecMII). Each puts its questions
-// in order and asks the dependence part about the sheet's graph.
+// The timing services on a loop sheet: earliest starts (ASAP), separations (MinDist) and the recurrence bound (RecMII).
+// Each puts its questions in order and asks the dependence part about the sheet's graph.
 ghost use mathlib.Core.Path.{_≡_};
 ghost use Rattle.timing.specs.Answers.{WalkAt, StartsAt, SeparationsAt, RecurrenceAt, withoutLoop, startsRefused};
 use dependence::BadWalk;
@@ -29,7 +29,8 @@ fn starts_refused(answer: usize) -> Starts
     }
 }
 
-// The sheet's questions, 4 and 5: 0 where there is no bad closed walk, and 5 with the first one. It is the answer number of `separations` too.
+// The sheet's questions, 4 and 5: 0 where there is no bad closed walk, and 5 with the first one. It is the answer
+// number of `separations` too.
 pub fn bad_walk(sheet: Sheet, interval: usize) -> BadWalk
     ensures { λ r. ⌜ WalkAt sheet interval r ⌝ }
 {
@@ -52,7 +53,8 @@ pub fn earliest_starts(sheet: Sheet, interval: usize) -> Starts
     dependence::earliest(sheet::graph_of(sheet), interval, [0; MOST_OPERATIONS])
 }
 
-// The separation table: each cell the greatest sum over walks of at least one edge, or the mark. All 0 where `bad_walk` refuses.
+// The separation table: each cell the greatest sum over walks of at least one edge, or the mark. All 0 where `bad_walk`
+// refuses.
 pub fn separations(sheet: Sheet, interval: usize) -> [[i32; MOST_OPERATIONS]; MOST_OPERATIONS]
     ensures { λ r. ⌜ SeparationsAt sheet interval r ⌝ }
 {

@@ -1,5 +1,5 @@
--- `schedule::first_plan` meets its contract: the task is ready, and what the search and the instances answer is the answer to question 6.
--- Assumes nothing.
+-- `schedule::first_plan` meets its contract: the task is ready, and what the search and the instances answer is the
+-- answer to question 6. Assumes nothing.
 use mathlib.Core.Path.{subst}
 use borrow.Author.Needs.{needs}
 use Rattle.dependence.specs.declared.Graph.{Graph}

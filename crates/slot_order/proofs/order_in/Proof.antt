@@ -1,5 +1,5 @@
--- `slot_order::order_in` meets its contract: each answer is a case of `SlotOrderAt`; the table gives the pair's operations.
--- Assumes nothing.
+-- `slot_order::order_in` meets its contract: each answer is a case of `SlotOrderAt`; the table gives the pair's
+-- operations. Assumes nothing.
 use mathlib.Core.Path.{refl}
 use Prim.Native.Nat.{_<_, _-_}
 use native.Mathlib.Omega.{arith}

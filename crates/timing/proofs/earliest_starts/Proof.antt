@@ -1,5 +1,5 @@
--- `timing::earliest_starts` meets its contract: the sheet's questions and 4, then the dependence part's answer over the floor 0.
--- Assumes nothing.
+-- `timing::earliest_starts` meets its contract: the sheet's questions and 4, then the dependence part's answer over the
+-- floor 0. Assumes nothing.
 use mathlib.Core.Path.{_≡_, subst}
 use borrow.Author.Needs.{needs}
 use lib.ListN.{length}
