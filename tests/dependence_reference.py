@@ -108,7 +108,7 @@ def numbers(values):
 
 
 def totals(graph, interval):
-    """Answer and total of each edge, and 3 for the number past the last."""
+    """Answer and total of each edge, and 3 for a graph with an edge too many."""
     for k in range(len(graph.edges)):
         yield from (0, graph.total(k, interval)) if 1 <= interval <= GREATEST_CAP else (4, 0)
     yield from (3, 0)
