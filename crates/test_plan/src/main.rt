@@ -2,6 +2,9 @@
 use libc::STDIN_FILENO;
 use libc::STDOUT_FILENO;
 
+// The most bytes of standard input that are looked at.
+const INPUT: usize = 262144;
+
 // Answers the piece at `at`, and gives the place after it; 0 where there is none.
 fn answer(input: &[u8], at: usize) -> usize {
     let piece = test_frames::next(input, at);
@@ -27,7 +30,7 @@ fn answer_all(input: &[u8]) {
 }
 
 fn main() {
-    let mut input = io::large_buffer();
+    let mut input = [0u8; INPUT];
     let n = io::read_full(STDIN_FILENO, &mut input);
     answer_all(&input[..n]);
 }
