@@ -4,3 +4,4 @@ pub mod Answers
 pub mod Served
 pub mod Unique
 pub mod Entries
+pub mod Most
