@@ -5,7 +5,7 @@ use Prim.Native.Nat.{ℕ, _+_, _-_, _≤_, _<_}
 use native.Mathlib.Omega.{arith}
 use lib.Dec.{eqb, leb}
 use borrow.Author.Tests.{ne-eqb, le-leb, lt-leb, eqb-true, leb-true}
-use Rattle.text.specs.Decimal.{by-test}
+use Rattle.laws.specs.Tests.{by-test}
 use Rattle.scan.specs.Number.{classOf}
 use Rattle.scan.specs.declared.Class.{Class}
 use Rattle.scan.specs.declared.Class.the-variants.{Minus, Digit, Comma, LineFeed, Other}

@@ -8,7 +8,8 @@ use lib.Dec.{eqb, ltb}
 use borrow.Author.Tests.{ne-eqb, lt-ltb, le-ltb, ltb-true, ltb-false, eqb-false}
 use Rattle.text.specs.Sizes.{threeDigits, fourDigits}
 use Rattle.text.specs.Text.{tens, digits}
-use Rattle.text.specs.Decimal.{by-test, limit, tens-room}
+use Rattle.laws.specs.Tests.{by-test}
+use Rattle.text.specs.Decimal.{limit, tens-room}
 use Rattle.scan.specs.Number.{Num, value, malformed, classOf, digitOr, moreDigits, number}
 use Rattle.scan.specs.Bytes.{class-digit, byte-of}
 use Rattle.scan.specs.declared.Class.{Class}

@@ -14,7 +14,8 @@ use Rattle.laws.specs.Z.{true-false}
 use Rattle.text.specs.Text.{digits, signedText, endOf, joined, lineText}
 use Rattle.scan.specs.Number.{Num, value, malformed, classOf, number, Signed, int, none, signedNumber, wholeOf}
 use Rattle.scan.specs.Line.{Rest, after, missing, stripped, fieldOf, fields, bad, fieldsFrom, lineOf}
-use Rattle.text.specs.Decimal.{by-test}
+use Rattle.laws.specs.Tests.{by-test}
+use Rattle.text.specs.Signed.{minus-text}
 use Rattle.scan.specs.Digits.{Ends, no-value, reads-digits, canonical}
 use Rattle.scan.specs.declared.Class.the-variants.{Digit}
 
@@ -84,7 +85,8 @@ reads-whole false (negsuc n) rest h s e = true-false s
 reads-whole true (pos n) rest h s e =
     let r = reads-digits n rest h e in
     plain-whole (digits n ++ rest) n rest r ∙ plain-int n (digits n ++ rest) rest r
-reads-whole true (negsuc n) rest h s e = minus-int n (digits (suc n) ++ rest) rest (reads-digits (suc n) rest h e)
+reads-whole true (negsuc n) rest h s e =
+    ap (λ (x : List ℕ). wholeOf true (x ++ rest)) (minus-text n (λ z. omega arith)) ∙ minus-int n (digits (suc n) ++ rest) rest (reads-digits (suc n) rest h e)
 
 -- what a number read says of the bytes that it was read from
 record Spelled (m : Bool) (bs : List ℕ) (v : ℤ) (rest : List ℕ) : Type 0 where
@@ -106,10 +108,9 @@ plain-at bs (value n left) v rest e f =
       sign = subst (λ (z : ℤ). isNegative z ≡ false) a refl;
     }
 
-minus-text : (n : ℕ) → (n ≡ 0 → ⊥) → signedText (negℤ (pos n)) ≡ 45 ∷ digits n
-unfolding signedText
-minus-text zero h = absurd (h refl)
-minus-text (suc n) h = refl
+negated-text : (n : ℕ) → n ≤ fourDigits → (n ≡ 0 → ⊥) → signedText (negℤ (pos n)) ≡ 45 ∷ digits n
+negated-text zero s h = absurd (h refl)
+negated-text (suc n) s h = minus-text n (λ z. omega arith)
 
 minus-small : (n : ℕ) → natAbs (negℤ (pos n)) ≡ n
 minus-small zero = refl
@@ -128,7 +129,7 @@ minus-at bs (value n left) v rest e f =
     let l : left ≡ rest = cc in
     record {
       text = ap (λ (r : List ℕ). 45 ∷ r) (c .text ∙ ap (λ (r : List ℕ). digits n ++ r) l)
-          ∙ ap (λ (r : List ℕ). r ++ rest) (sym (minus-text n (eqb-false n 0 t))) ∙ ap (λ (z : ℤ). signedText z ++ rest) a;
+          ∙ ap (λ (r : List ℕ). r ++ rest) (sym (negated-text n (c .small) (eqb-false n 0 t))) ∙ ap (λ (z : ℤ). signedText z ++ rest) a;
       small = subst (λ (z : ℤ). natAbs z ≤ fourDigits) a (rw (minus-small n) (c .small));
       sign = tt;
     })

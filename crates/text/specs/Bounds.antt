@@ -5,21 +5,31 @@ use mathlib.Core.List.{List, [], _∷_}
 use Prim.Native.Nat.{ℕ, suc, _+_, _*_, _≤_, _<_}
 use native.Mathlib.Nat.{mul-suc}
 use native.Mathlib.Omega.{arith}
+use lib.Dec.{eqb}
 use lib.IntN.{ℤ, pos, negsuc, natAbs}
-use lib.ListN.{length, length-append}
-use Rattle.text.specs.Text.{signedText, endOf, joined, lineText}
-use Rattle.text.specs.Decimal.{limit, digits-most}
+use lib.ListN.{length, take, length-append, length-take}
+use Rattle.text.specs.declared.Line as declared
+use Rattle.text.specs.Sizes.{mostValues, longestNumber, longestLine}
+use Rattle.text.specs.Text.{digits, noNumber, signedText, endOf, joined, lineText}
+use Rattle.text.specs.Line.{keyOf, textOf}
 use Rattle.text.specs.Lines.{Line, lineTextOf, linesText}
+use Rattle.text.specs.KeyTable.{key-most}
+use Rattle.laws.specs.Tests.{by-test}
+use Rattle.text.specs.Decimal.{limit, digits-length, digits-most}
 
 pub natural-most : (k n : ℕ) → n < limit k → length (signedText (pos n)) ≤ k + 1
 unfolding signedText
 natural-most k n h = digits-most k n h
 
+-- a minus and the digits at most
+sign-most : (z : ℤ) → length (signedText z) ≤ length (digits (natAbs z)) + 1
+unfolding signedText
+sign-most (pos n) = omega arith
+sign-most (negsuc n) = by-test (eqb (suc n) (natAbs noNumber)) (λ t. rw t (omega arith)) (λ t. rw t (omega arith))
+
 -- a minus and at most k + 1 digits
 pub signed-most : (k : ℕ) (z : ℤ) → natAbs z < limit k → length (signedText z) ≤ k + 2
-unfolding signedText
-signed-most k (pos n) h = let a = digits-most k n h in omega arith
-signed-most k (negsuc n) h = let a = digits-most k (suc n) h in omega arith
+signed-most k z h = let a = digits-most k (natAbs z) h in let b = sign-most z in omega arith
 
 -- each number has at most m bytes
 abbrev pub Within : ℕ → List ℤ → Type 0
@@ -48,3 +58,22 @@ cons-length l ls = length-append (lineTextOf l) (linesText ls)
 pub nil-length : length (linesText []) ≡ 0
 unfolding linesText
 nil-length = refl
+
+-- ---- whichever the line is
+
+number-most : (z : ℤ) → length (signedText z) ≤ longestNumber
+number-most z = let a = digits-length (natAbs z) in let b = sign-most z in omega arith
+
+numbers-most : (vs : List ℤ) → Within longestNumber vs
+numbers-most [] = tt
+numbers-most (v ∷ vs) = (number-most v, numbers-most vs)
+
+-- a line by the number of its key
+pub text-most : (l : declared.Line) → length (l .values) ≤ mostValues → length (textOf l) ≤ longestLine
+unfolding textOf
+text-most l h =
+    let vs = take (l .count) (l .values) in
+    let n = length-take (l .count) (l .values) in
+    let a = line-most longestNumber (keyOf (l .key)) vs (numbers-most vs) in
+    let k = key-most (l .key) in
+    omega arith

@@ -19,7 +19,7 @@ fourDigits = 9999
 
 -- bytes of a key, with its equals sign
 abbrev pub longestKey : ℕ
-longestKey = 9
+longestKey = 11
 
 -- digits of a number below 2 to the power 32
 abbrev pub mostDigits : ℕ
