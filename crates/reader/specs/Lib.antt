@@ -2,7 +2,10 @@
 pub mod Found
 pub mod Kinds
 pub mod Read
+pub mod Fault
 -- ---- laws
 pub mod Seen
 pub mod Steps
 pub mod Whole
+pub mod Refusals
+pub mod FaultLaws

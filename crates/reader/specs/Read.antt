@@ -3,7 +3,7 @@ use Prim.Native.Nat.{ℕ}
 use mathlib.Core.List.{List, [], _∷_}
 use mathlib.Core.Bool.{cond}
 use lib.Dec.{ltb}
-use lib.ListN.{length}
+use lib.ListN.{length, drop}
 use Rattle.sizes.specs.Sizes.{mostTypes, mostOperations, mostEdges}
 use Rattle.dependence.specs.declared.Edge.{Edge}
 use Rattle.dependence.specs.Graph.{noEdge}
@@ -38,24 +38,37 @@ sheetFrom bs =
     andThen (sectionFrom edgesKind (edgeKind (length ops)) bs) (λ edges bs.
     found (sheetOf horizon cap types ops edges) bs)))))
 
--- with a refusal every other number is 0
-abbrev pub refusal : ℕ → ReadAnswer
-refusal n = record { answer = n; sheet = sheetOf 0 0 [] [] [] }
-
--- questions 1 to 3 got a yes: 0 and the sheet
-abbrev pub accepted : Sheet → ReadAnswer
-accepted s = record { answer = 0; sheet = s }
-
 -- nothing follows the last line, else 2
-abbrev pub toTheEnd : Found Sheet → ReadAnswer
-toTheEnd (found s []) = accepted s
-toTheEnd (found s (b ∷ bs)) = refusal 2
-toTheEnd (refused n) = refusal n
+abbrev pub toTheEnd : Found Sheet → Found Sheet
+toTheEnd (found s []) = found s []
+toTheEnd (found s (b ∷ bs)) = refused 2 (b ∷ bs)
+toTheEnd (refused n bs) = refused n bs
 
 -- bytes of a sheet
 abbrev pub longestSheet : ℕ
 longestSheet = 4096
 
--- the answer to reading these bytes: question 1, whether they are not too many, comes before any line
+-- all the bytes: question 1, whether they are not too many, comes before any line
+unfoldable pub wholeFrom : List ℕ → Found Sheet
+wholeFrom bs = cond (ltb longestSheet (length bs)) (refused 1 (drop longestSheet bs)) (toTheEnd (sheetFrom bs))
+
+-- a sheet whose numbers are all 0
+abbrev pub noSheet : Sheet
+noSheet = sheetOf 0 0 [] [] []
+
+-- with a refusal every other number is 0
+abbrev pub refusal : ℕ → ReadAnswer
+refusal n = record { answer = n; sheet = noSheet }
+
+-- questions 1 to 3 got a yes: 0 and the sheet
+abbrev pub accepted : Sheet → ReadAnswer
+accepted s = record { answer = 0; sheet = s }
+
+-- the sheet that was found, or the number of the refusal
+abbrev pub answered : Found Sheet → ReadAnswer
+answered (found s rest) = accepted s
+answered (refused n rest) = refusal n
+
+-- the answer to reading these bytes
 unfoldable pub readOf : List ℕ → ReadAnswer
-readOf bs = cond (ltb longestSheet (length bs)) (refusal 1) (toTheEnd (sheetFrom bs))
+readOf bs = answered (wholeFrom bs)

@@ -4,11 +4,14 @@ use Prim.Native.Nat.{ℕ, _≤_}
 use mathlib.Core.Path.{_≡_}
 use mathlib.Core.List.{List}
 use lib.ListN.{length, drop, take}
+use Rattle.reader.specs.declared.ReadAnswer.{ReadAnswer}
+use Rattle.reader.specs.declared.SheetRead.{SheetRead}
 use Rattle.reader.specs.Found.{Found, judged, padded}
+use Rattle.reader.specs.Read.{readOf, wholeFrom}
 
--- the answer and, where it is 0, what was found and the place after it
+-- the answer and, where it is 0, what was found and the place after it; else the place of what is refused
 unfoldable pub seen : {A : Type 0} → List ℕ → ℕ → A → ℕ → Found A
-seen s answer a next = judged answer a (drop next s)
+seen s answer a next = judged answer a (drop next s) (drop next s)
 
 -- what the code has is what the definition `want` finds, and its place lies within the bytes
 pub record Reads {A : Type 0} (s : List ℕ) (answer : ℕ) (a : A) (next : ℕ) (want : Found A) : Type 0 where
@@ -21,12 +24,17 @@ pub record Filled {A : Type 0} (size : ℕ) (d : A) (count : ℕ) (array : List 
   pub few : count ≤ size
   pub rest : array ≡ padded size d (take count array)
 
--- a refusal, with nothing beside it
-pub record Refuses {A : Type 0} (n size : ℕ) (d : A) (answer count : ℕ) (array : List A) (next : ℕ) : Type 0 where
+-- a refusal at a place, with nothing beside it
+pub record Refuses {A : Type 0} (n at size : ℕ) (d : A) (answer count : ℕ) (array : List A) (next : ℕ) : Type 0 where
   pub answered : answer ≡ n
-  pub nowhere : next ≡ 0
+  pub there : next ≡ at
   pub empty : Filled size d count array
 
 -- the entries of a section that were read
 abbrev pub Entries : {A : Type 0} → ℕ → A → List ℕ → ℕ → ℕ → List A → ℕ → Found (List A) → Type 0
 Entries size d s answer count array next want = Reads s answer (take count array) next want × Filled size d count array
+
+-- what was read of all the bytes: its answer and sheet are what reading gives
+pub record WholeRead (s : List ℕ) (r : SheetRead) : Type 0 where
+  pub reads : Reads s (r .answer) (r .sheet) (r .next) (wholeFrom s)
+  pub gives : _≡_ {A = ReadAnswer} (record { answer = r .answer; sheet = r .sheet }) (readOf s)

@@ -52,41 +52,41 @@ seen-bad : (s : List ℕ) (k : ℕ) (l : Line) {n : Fields} → seenLine s k l �
 unfolding seenLine
 seen-bad s k l e t = sym e ∙ rw t
 
-judged-no : {A : Type 0} (n : ℕ) (a : A) (rest : List ℕ) → (n ≡ 0 → ⊥) → judged n a rest ≡ refused n
-judged-no zero a rest h = absurd (h refl)
-judged-no (suc n) a rest h = refl
+judged-no : {A : Type 0} (n : ℕ) (a : A) (bs rest : List ℕ) → (n ≡ 0 → ⊥) → judged n a bs rest ≡ refused n bs
+judged-no zero a bs rest h = absurd (h refl)
+judged-no (suc n) a bs rest h = refl
 
-seen-zero : {A : Type 0} (s : List ℕ) (a : A) (next : ℕ) → seen s 0 a next ≡ found a (drop next s)
+pub seen-zero : {A : Type 0} (s : List ℕ) (a : A) (next : ℕ) → seen s 0 a next ≡ found a (drop next s)
 unfolding seen
 seen-zero s a next = refl
 
-seen-other : {A : Type 0} (s : List ℕ) (answer : ℕ) (a : A) (next : ℕ) → (answer ≡ 0 → ⊥) → seen s answer a next ≡ refused answer
+pub seen-other : {A : Type 0} (s : List ℕ) (answer : ℕ) (a : A) (next : ℕ) → (answer ≡ 0 → ⊥) → seen s answer a next ≡ refused answer (drop next s)
 unfolding seen
-seen-other s answer a next n = judged-no answer a (drop next s) n
+seen-other s answer a next n = judged-no answer a (drop next s) (drop next s) n
 
-line-bad : {A : Type 0} (k : Kind A) (bs : List ℕ) → lineOf (k .key) (k .count) (k .minus) bs ≡ bad → lineFrom k bs ≡ refused 2
+line-bad : {A : Type 0} (k : Kind A) (bs : List ℕ) → lineOf (k .key) (k .count) (k .minus) bs ≡ bad → lineFrom k bs ≡ refused 2 bs
 unfolding lineFrom
 line-bad k bs e = rw e
 
 pub line-out : {A : Type 0} (k : Kind A) (bs : List ℕ) (vs : List ℤ) (rest : List ℕ) → lineOf (k .key) (k .count) (k .minus) bs ≡ fields vs rest → (k .answer (k .make vs) ≡ 0 → ⊥)
-    → lineFrom k bs ≡ refused (k .answer (k .make vs))
+    → lineFrom k bs ≡ refused (k .answer (k .make vs)) bs
 unfolding lineFrom
-line-out k bs vs rest e f = rw e (judged-no (k .answer (k .make vs)) (k .make vs) rest f)
+line-out k bs vs rest e f = rw e (judged-no (k .answer (k .make vs)) (k .make vs) bs rest f)
 
 pub line-in : {A : Type 0} (k : Kind A) (bs : List ℕ) (vs : List ℤ) (rest : List ℕ) → lineOf (k .key) (k .count) (k .minus) bs ≡ fields vs rest → k .answer (k .make vs) ≡ 0 → lineFrom k bs ≡ found (k .make vs) rest
 unfolding lineFrom
 line-in k bs vs rest e f = rw (e, f)
 
--- a line that `scan` has read, and its entry
-module _ {A : Type 0} (k : Kind A) (s bs : List ℕ) (l : Line) (e : seenLine s (k .count) l ≡ lineOf (k .key) (k .count) (k .minus) bs) (fits : LineFits s (k .count) l) where
-  pub malformed : (none : A) → not (l .ok) ≡ true → Reads s 2 none 0 (lineFrom k bs)
-  malformed none t = record {
-    same = seen-other s 2 none 0 (λ z. absurd (omega arith)) ∙ sym (line-bad k bs (seen-bad s (k .count) l e (not-true _ t)));
-    within = omega arith;
+-- a line that `scan` has read at a place, and its entry
+module _ {A : Type 0} (k : Kind A) (s : List ℕ) (at : ℕ) (l : Line) (e : seenLine s (k .count) l ≡ lineOf (k .key) (k .count) (k .minus) (drop at s)) (fits : LineFits s (k .count) l) where
+  pub malformed : at ≤ length s → (none : A) → not (l .ok) ≡ true → Reads s 2 none at (lineFrom k (drop at s))
+  malformed h none t = record {
+    same = seen-other s 2 none at (λ z. absurd (omega arith)) ∙ sym (line-bad k (drop at s) (seen-bad s (k .count) l e (not-true _ t)));
+    within = h;
   }
 
   module _ (t : not (l .ok) ≡ false) where
-    got : lineOf (k .key) (k .count) (k .minus) bs ≡ fields (take (k .count) (l .values)) (drop (l .next) s)
+    got : lineOf (k .key) (k .count) (k .minus) (drop at s) ≡ fields (take (k .count) (l .values)) (drop (l .next) s)
     got = seen-fields s (k .count) l e (not-false _ t)
 
     -- a number is read back from its bits
@@ -96,7 +96,7 @@ module _ {A : Type 0} (k : Kind A) (s bs : List ℕ) (l : Line) (e : seenLine s 
     not-negative : (i : ℕ) → i < k .count → (i ≡ k .minus → ⊥) → isNegative (getD (l .values) i (pos 0)) ≡ false
     not-negative i h n =
         ap isNegative (sym (getD-take (k .count) (l .values) i (pos 0) h))
-        ∙ writable-plain (k .minus) 0 i (take (k .count) (l .values)) (line-text (k .key) (k .count) (k .minus) bs _ _ got .good) (λ z. n (omega arith))
+        ∙ writable-plain (k .minus) 0 i (take (k .count) (l .values)) (line-text (k .key) (k .count) (k .minus) (drop at s) _ _ got .good) (λ z. n (omega arith))
 
     -- its cast to an unsigned number
     pub cast-at : (i : ℕ) → i < k .count → (i ≡ k .minus → ⊥)
@@ -107,34 +107,34 @@ module _ {A : Type 0} (k : Kind A) (s bs : List ℕ) (l : Line) (e : seenLine s 
         rw q (plain v (fits .small i) (not-negative i h n))
 
     module _ (a : A) (made : a ≡ k .make (take (k .count) (l .values))) where
-      pub refuses : {answer : ℕ} (none : A) → answer ≡ k .answer a → (answer ≡ 0 → ⊥) → Reads s answer none 0 (lineFrom k bs)
-      refuses {answer} none e n =
+      pub refuses : {answer : ℕ} → at ≤ length s → (none : A) → answer ≡ k .answer a → (answer ≡ 0 → ⊥) → Reads s answer none at (lineFrom k (drop at s))
+      refuses {answer} h none e n =
           let q : answer ≡ k .answer (k .make (take (k .count) (l .values))) = e ∙ ap (k .answer) made in
           record {
-            same = seen-other s answer none 0 n ∙ ap refused q ∙ sym (line-out k bs _ _ got (λ z. n (q ∙ z)));
-            within = omega arith;
+            same = seen-other s answer none at n ∙ ap (λ (m : ℕ). refused m (drop at s)) q ∙ sym (line-out k (drop at s) _ _ got (λ z. n (q ∙ z)));
+            within = h;
           }
 
-      pub entry : {answer : ℕ} → answer ≡ k .answer a → answer ≡ 0 → Reads s 0 a (l .next) (lineFrom k bs)
+      pub entry : {answer : ℕ} → answer ≡ k .answer a → answer ≡ 0 → Reads s 0 a (l .next) (lineFrom k (drop at s))
       entry e z = record {
-        same = seen-zero s a (l .next) ∙ ap (λ (x : A). found x (drop (l .next) s)) made ∙ sym (line-in k bs _ _ got (ap (k .answer) (sym made) ∙ sym e ∙ z));
+        same = seen-zero s a (l .next) ∙ ap (λ (x : A). found x (drop (l .next) s)) made ∙ sym (line-in k (drop at s) _ _ got (ap (k .answer) (sym made) ∙ sym e ∙ z));
         within = fits .next;
       }
 
 -- ---- what was found
 
-pub no-found : {A : Type 0} {n : ℕ} {a : A} {rest : List ℕ} → refused n ≡ found a rest → ⊥
+pub no-found : {A : Type 0} {n : ℕ} {bs : List ℕ} {a : A} {rest : List ℕ} → refused n bs ≡ found a rest → ⊥
 no-found e = let z : _≡_ {A = ℕ} 0 1 = cc in omega arith
 
-pub judged-found : {A : Type 0} (n : ℕ) (a : A) (rest : List ℕ) {b : A} {left : List ℕ} → judged n a rest ≡ found b left → (n ≡ 0) × (_≡_ {A = Found A} (found a rest) (found b left))
-judged-found zero a rest e = (refl, e)
-judged-found (suc n) a rest e = absurd (no-found e)
+pub judged-found : {A : Type 0} (n : ℕ) (a : A) (bs rest : List ℕ) {b : A} {left : List ℕ} → judged n a bs rest ≡ found b left → (n ≡ 0) × (_≡_ {A = Found A} (found a rest) (found b left))
+judged-found zero a bs rest e = (refl, e)
+judged-found (suc n) a bs rest e = absurd (no-found e)
 
 inside-at : {A : Type 0} (k : Kind A) (bs : List ℕ) (n : Fields) (a : A) (rest : List ℕ) → lineOf (k .key) (k .count) (k .minus) bs ≡ n → lineFrom k bs ≡ found a rest → k .answer a ≡ 0
 unfolding lineFrom
 inside-at k bs bad a rest e f = absurd (no-found (simp e at f))
 inside-at {A} k bs (fields vs left) a rest e f =
-    let j = judged-found (k .answer (k .make vs)) (k .make vs) left (simp e at f) in
+    let j = judged-found (k .answer (k .make vs)) (k .make vs) bs left (simp e at f) in
     let g : _≡_ {A = Found A} (found (k .make vs) left) (found a rest) = j .1 in
     let q : k .make vs ≡ a = cc in
     ap (k .answer) (sym q) ∙ j .0
@@ -147,14 +147,17 @@ module _ {A : Type 0} {s : List ℕ} {answer : ℕ} {a : A} {next : ℕ} {want :
   pub is-found : answer ≡ 0 → want ≡ found a (drop next s)
   is-found z = sym (r .same) ∙ ap (λ (n : ℕ). seen s n a next) z ∙ seen-zero s a next
 
-  pub is-refused : (answer ≡ 0 → ⊥) → want ≡ refused answer
+  pub is-refused : (answer ≡ 0 → ⊥) → want ≡ refused answer (drop next s)
   is-refused n = sym (r .same) ∙ seen-other s answer a next n
 
 -- a refusal is handed on
-hands-on : {A : Type 0} {n size : ℕ} {d : A} {answer count : ℕ} {array : List A} {next : ℕ} (s : List ℕ) {want : Found (List A)}
-    → Refuses n size d answer count array next → (n ≡ 0 → ⊥) → want ≡ refused n → Entries size d s answer count array next want
-hands-on {answer = answer} {count = count} {array = array} {next = next} s r h w = (
-  record { same = seen-other s answer (take count array) next (λ q. h (sym (r .answered) ∙ q)) ∙ ap refused (r .answered) ∙ sym w; within = omega (arith, r .nowhere) },
+hands-on : {A : Type 0} {n at size : ℕ} {d : A} {answer count : ℕ} {array : List A} {next : ℕ} (s : List ℕ) {want : Found (List A)}
+    → Refuses n at size d answer count array next → at ≤ length s → (n ≡ 0 → ⊥) → want ≡ refused n (drop at s) → Entries size d s answer count array next want
+hands-on {answer = answer} {count = count} {array = array} {next = next} s r l h w = (
+  record {
+    same = seen-other s answer (take count array) next (λ q. h (sym (r .answered) ∙ q)) ∙ (λ i. refused (r .answered i) (drop (r .there i) s)) ∙ sym w;
+    within = omega (arith, r .there);
+  },
   r .empty,
 )
 
@@ -180,9 +183,9 @@ module _ {A : Type 0} {k : Kind A} {size : ℕ} {d : A} {s : List ℕ} {at count
     left : count - i ≡ suc (count - (i + 1))
     left = omega arith
 
-    lines-stop : (n : ℕ) → lineFrom k (drop p s) ≡ refused n → linesFrom k (count - i) (take i es) (drop p s) ≡ refused n
+    lines-stop : (n : ℕ) (bs : List ℕ) → lineFrom k (drop p s) ≡ refused n bs → linesFrom k (count - i) (take i es) (drop p s) ≡ refused n bs
     unfolding linesFrom
-    lines-stop n e = rw (left, e)
+    lines-stop n bs e = rw (left, e)
 
     lines-more : (a : A) (rest : List ℕ) → lineFrom k (drop p s) ≡ found a rest → linesFrom k (count - i) (take i es) (drop p s) ≡ linesFrom k (count - (i + 1)) (take i es ++ (a ∷ [])) rest
     unfolding linesFrom
@@ -207,9 +210,9 @@ module _ {A : Type 0} {k : Kind A} {size : ℕ} {d : A} {s : List ℕ} {at count
         }
 
     module _ {answer : ℕ} {a : A} {next : ℕ} (r : Reads s answer a next (lineFrom k (drop p s))) where
-      pub stops : {refusal count′ : ℕ} {array : List A} {next′ : ℕ} → (answer ≡ 0 → ⊥) → Refuses answer size d refusal count′ array next′
+      pub stops : {refusal count′ : ℕ} {array : List A} {next′ : ℕ} → (answer ≡ 0 → ⊥) → Refuses answer next size d refusal count′ array next′
           → Entries size d s refusal count′ array next′ (linesFrom k count [] (drop at s))
-      stops n f = hands-on s f n (sym (t .same) ∙ lines-stop answer (is-refused r n))
+      stops n f = hands-on s f (r .within) n (sym (t .same) ∙ lines-stop answer (drop next s) (is-refused r n))
 
       pub turn : count ≤ size → answer ≡ 0 → Turn k size d s at count (set es i a) next (i + 1)
       turn c z =
@@ -237,18 +240,18 @@ module _ {A : Type 0} {k : Kind A} {size : ℕ} {d : A} {s : List ℕ} {at count
 
 -- ---- a section: its count, then its lines
 
-section-refused : {A : Type 0} (counts : Kind ℕ) (k : Kind A) (bs : List ℕ) (n : ℕ) → lineFrom counts bs ≡ refused n → sectionFrom counts k bs ≡ refused n
+section-refused : {A : Type 0} (counts : Kind ℕ) (k : Kind A) (bs : List ℕ) (n : ℕ) (rest : List ℕ) → lineFrom counts bs ≡ refused n rest → sectionFrom counts k bs ≡ refused n rest
 unfolding sectionFrom
-section-refused counts k bs n e = rw e
+section-refused counts k bs n rest e = rw e
 
 section-lines : {A : Type 0} (counts : Kind ℕ) (k : Kind A) (bs : List ℕ) (n : ℕ) (rest : List ℕ) → lineFrom counts bs ≡ found n rest → sectionFrom counts k bs ≡ linesFrom k n [] rest
 unfolding sectionFrom
 section-lines counts k bs n rest e = rw e
 
 module _ {A : Type 0} {size : ℕ} {d : A} (counts : Kind ℕ) (k : Kind A) {s : List ℕ} (bs : List ℕ) {answer n next : ℕ} (r : Reads s answer n next (lineFrom counts bs)) where
-  pub count-refused : {refusal count : ℕ} {array : List A} {next′ : ℕ} → (answer ≡ 0 → ⊥) → Refuses answer size d refusal count array next′
+  pub count-refused : {refusal count : ℕ} {array : List A} {next′ : ℕ} → (answer ≡ 0 → ⊥) → Refuses answer next size d refusal count array next′
       → Entries size d s refusal count array next′ (sectionFrom counts k bs)
-  count-refused h f = hands-on s f h (section-refused counts k bs answer (is-refused r h))
+  count-refused h f = hands-on s f (r .within) h (section-refused counts k bs answer (drop next s) (is-refused r h))
 
   pub section-read : {answer′ count : ℕ} {array : List A} {next′ : ℕ} → answer ≡ 0 → Entries size d s answer′ count array next′ (linesFrom k n [] (drop next s))
       → Entries size d s answer′ count array next′ (sectionFrom counts k bs)

@@ -1,7 +1,12 @@
-// Reads a loop sheet from bytes: question 1, then line by line question 2 and what the line's entry answers.
+// Reads a loop sheet from bytes: question 1, then line by line question 2 and what the line's entry answers. And finds
+// the line at fault of bytes that are refused.
 ghost use mathlib.Core.Path.{_≡_};
-ghost use Rattle.reader.specs.Read.{readOf, refusal};
-ghost use Rattle.reader.specs.Whole.{asRead};
+ghost use Prim.Native.Nat.{_≤_};
+ghost use lib.ListN.{length};
+ghost use Rattle.reader.specs.Fault.{faultOf, lineNumber};
+ghost use Rattle.reader.specs.Read.{readOf};
+ghost use Rattle.reader.specs.Seen.{WholeRead};
+ghost use Rattle.reader.specs.Whole.{asRead, refusedAt};
 
 mod lines;
 mod sections;
@@ -30,6 +35,9 @@ pub const LONGEST_SHEET: usize = 4096;
 // The answer to question 1.
 const TOO_LONG: usize = 1;
 
+// The byte that ends a line.
+const LINE_FEED: u8 = b'\n';
+
 // The answer and, where it is 0, the sheet; with a refusal every number of the sheet is 0.
 #[repr(C)]
 pub struct ReadAnswer {
@@ -37,10 +45,17 @@ pub struct ReadAnswer {
     pub sheet: Sheet,
 }
 
-fn refuse(answer: usize) -> ReadAnswer
-    ensures { λ r. ⌜ r ≡ refusal answer ⌝ }
+// The same, with the place after the last line; with a refusal, the place where what is refused begins.
+struct SheetRead {
+    answer: usize,
+    sheet: Sheet,
+    next: usize,
+}
+
+fn refuse(answer: usize, at: usize) -> SheetRead
+    ensures { λ r. ⌜ r ≡ refusedAt answer at ⌝ }
 {
-    ReadAnswer {
+    SheetRead {
         answer,
         sheet: Sheet {
             horizon: 0,
@@ -52,23 +67,18 @@ fn refuse(answer: usize) -> ReadAnswer
             edge_count: 0,
             edges: [NO_EDGE; MOST_EDGES],
         },
+        next: at,
     }
 }
 
 // The sheet of what was read.
-fn accept(
-    horizon: usize,
-    cap: usize,
-    types: TypesRead,
-    ops: OpsRead,
-    edges: EdgesRead,
-) -> ReadAnswer
-    ensures { λ r. ⌜ r ≡ asRead horizon cap (types .count) (ops .count) (edges .count) (types .entries) (ops .entries) (edges .entries) ⌝ }
+fn accept(horizon: usize, cap: usize, types: TypesRead, ops: OpsRead, edges: EdgesRead) -> SheetRead
+    ensures { λ r. ⌜ r ≡ asRead horizon cap (types .count) (ops .count) (edges .count) (types .entries) (ops .entries) (edges .entries) (edges .next) ⌝ }
 {
     let type_entries = types.entries;
     let op_entries = ops.entries;
     let edge_entries = edges.entries;
-    ReadAnswer {
+    SheetRead {
         answer: 0,
         sheet: Sheet {
             horizon,
@@ -80,38 +90,78 @@ fn accept(
             edge_count: edges.count,
             edges: edge_entries,
         },
+        next: edges.next,
     }
+}
+
+// The sheet whose text these bytes are, or the number of the refusal and its place.
+fn read_whole(bytes: &[u8]) -> SheetRead
+    ensures { λ r. ⌜ WholeRead (now (bytes .entry)) r ⌝ }
+{
+    if LONGEST_SHEET < bytes.len() {
+        return refuse(TOO_LONG, LONGEST_SHEET);
+    }
+    let horizon = read_number(bytes, 0, b"horizon=", HORIZON);
+    if horizon.answer != 0 {
+        return refuse(horizon.answer, horizon.next);
+    }
+    let cap = read_number(bytes, horizon.next, b"cap=", CAP);
+    if cap.answer != 0 {
+        return refuse(cap.answer, cap.next);
+    }
+    let types = read_types(bytes, cap.next);
+    if types.answer != 0 {
+        return refuse(types.answer, types.next);
+    }
+    let ops = read_ops(bytes, types.next, types.count);
+    if ops.answer != 0 {
+        return refuse(ops.answer, ops.next);
+    }
+    let edges = read_edges(bytes, ops.next, ops.count);
+    if edges.answer != 0 {
+        return refuse(edges.answer, edges.next);
+    }
+    if edges.next < bytes.len() {
+        return refuse(MALFORMED, edges.next);
+    }
+    accept(horizon.value, cap.value, types, ops, edges)
 }
 
 // The sheet whose text these bytes are, or the number of the refusal.
 pub fn read(bytes: &[u8]) -> ReadAnswer
     ensures { λ r. ⌜ r ≡ readOf (now (bytes .entry)) ⌝ }
 {
-    if LONGEST_SHEET < bytes.len() {
-        return refuse(TOO_LONG);
+    let whole = read_whole(bytes);
+    let sheet = whole.sheet;
+    ReadAnswer {
+        answer: whole.answer,
+        sheet,
     }
-    let horizon = read_number(bytes, 0, b"horizon=", HORIZON);
-    if horizon.answer != 0 {
-        return refuse(horizon.answer);
+}
+
+// The number of the line that holds the byte at a place, counted from 1.
+fn line_number(bytes: &[u8], at: usize) -> usize
+    requires { ⌜ at ≤ length (now bytes) ⌝ }
+    ensures { λ r. ⌜ r ≡ lineNumber at (now (bytes .entry)) ⌝ }
+{
+    let mut line: usize = 1;
+    let mut i: usize = 0;
+    while i < at {
+        if bytes[i] == LINE_FEED {
+            line += 1;
+        }
+        i += 1;
     }
-    let cap = read_number(bytes, horizon.next, b"cap=", CAP);
-    if cap.answer != 0 {
-        return refuse(cap.answer);
+    line
+}
+
+// The number of the line at fault, counted from 1, where reading refuses these bytes; 0 where it accepts them.
+pub fn line_at_fault(bytes: &[u8]) -> usize
+    ensures { λ r. ⌜ r ≡ faultOf (now (bytes .entry)) ⌝ }
+{
+    let whole = read_whole(bytes);
+    if whole.answer == 0 {
+        return 0;
     }
-    let types = read_types(bytes, cap.next);
-    if types.answer != 0 {
-        return refuse(types.answer);
-    }
-    let ops = read_ops(bytes, types.next, types.count);
-    if ops.answer != 0 {
-        return refuse(ops.answer);
-    }
-    let edges = read_edges(bytes, ops.next, ops.count);
-    if edges.answer != 0 {
-        return refuse(edges.answer);
-    }
-    if edges.next < bytes.len() {
-        return refuse(MALFORMED);
-    }
-    accept(horizon.value, cap.value, types, ops, edges)
+    line_number(bytes, whole.next)
 }

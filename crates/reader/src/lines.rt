@@ -1,6 +1,7 @@
 // One line of a sheet: the answer (2, then what its entry answers), its entry and the place after it. With a refusal
-// the others are 0.
-ghost use lib.ListN.{drop};
+// the entry is 0, and the place is where the line begins.
+ghost use Prim.Native.Nat.{_≤_};
+ghost use lib.ListN.{drop, length};
 ghost use Rattle.reader.specs.Found.{lineFrom};
 ghost use Rattle.reader.specs.Kinds.{numberKind, typeKind, opKind, edgeKind};
 ghost use Rattle.reader.specs.Seen.{Reads};
@@ -26,6 +27,7 @@ pub struct NumberRead {
 
 // The line with this key and one number, in the range of a field.
 pub fn read_number(s: &[u8], at: usize, key: &[u8], field: usize) -> NumberRead
+    requires { ⌜ at ≤ length (now s) ⌝ }
     ensures { λ r. ⌜ Reads (now (s .entry)) (r .answer) (r .value) (r .next) (lineFrom (numberKind (now (key .entry)) field) (drop at (now (s .entry)))) ⌝ }
 {
     let line = scan::read_line(s, at, key, 1, NO_MINUS);
@@ -33,7 +35,7 @@ pub fn read_number(s: &[u8], at: usize, key: &[u8], field: usize) -> NumberRead
         return NumberRead {
             answer: MALFORMED,
             value: 0,
-            next: 0,
+            next: at,
         };
     }
     let values = line.values;
@@ -43,7 +45,7 @@ pub fn read_number(s: &[u8], at: usize, key: &[u8], field: usize) -> NumberRead
         return NumberRead {
             answer,
             value: 0,
-            next: 0,
+            next: at,
         };
     }
     NumberRead {
@@ -61,6 +63,7 @@ pub struct TypeRead {
 
 // The line `type=A,D`.
 pub fn read_type(s: &[u8], at: usize) -> TypeRead
+    requires { ⌜ at ≤ length (now s) ⌝ }
     ensures { λ r. ⌜ Reads (now (s .entry)) (r .answer) (r .entry) (r .next) (lineFrom typeKind (drop at (now (s .entry)))) ⌝ }
 {
     let line = scan::read_line(s, at, b"type=", 2, NO_MINUS);
@@ -68,7 +71,7 @@ pub fn read_type(s: &[u8], at: usize) -> TypeRead
         return TypeRead {
             answer: MALFORMED,
             entry: NO_TYPE,
-            next: 0,
+            next: at,
         };
     }
     let values = line.values;
@@ -81,7 +84,7 @@ pub fn read_type(s: &[u8], at: usize) -> TypeRead
         return TypeRead {
             answer,
             entry: NO_TYPE,
-            next: 0,
+            next: at,
         };
     }
     TypeRead {
@@ -99,6 +102,7 @@ pub struct OpRead {
 
 // The line `op=r`, where r is below the count of types.
 pub fn read_op(s: &[u8], at: usize, types: usize) -> OpRead
+    requires { ⌜ at ≤ length (now s) ⌝ }
     ensures { λ r. ⌜ Reads (now (s .entry)) (r .answer) (r .entry) (r .next) (lineFrom (opKind types) (drop at (now (s .entry)))) ⌝ }
 {
     let line = scan::read_line(s, at, b"op=", 1, NO_MINUS);
@@ -106,7 +110,7 @@ pub fn read_op(s: &[u8], at: usize, types: usize) -> OpRead
         return OpRead {
             answer: MALFORMED,
             entry: NO_OPERATION,
-            next: 0,
+            next: at,
         };
     }
     let values = line.values;
@@ -118,7 +122,7 @@ pub fn read_op(s: &[u8], at: usize, types: usize) -> OpRead
         return OpRead {
             answer,
             entry: NO_OPERATION,
-            next: 0,
+            next: at,
         };
     }
     OpRead {
@@ -136,6 +140,7 @@ pub struct EdgeRead {
 
 // The line `edge=i,j,d,b`, where i and j are below the count of operations.
 pub fn read_edge(s: &[u8], at: usize, ops: usize) -> EdgeRead
+    requires { ⌜ at ≤ length (now s) ⌝ }
     ensures { λ r. ⌜ Reads (now (s .entry)) (r .answer) (r .entry) (r .next) (lineFrom (edgeKind ops) (drop at (now (s .entry)))) ⌝ }
 {
     let line = scan::read_line(s, at, b"edge=", 4, DELAY_PLACE);
@@ -143,7 +148,7 @@ pub fn read_edge(s: &[u8], at: usize, ops: usize) -> EdgeRead
         return EdgeRead {
             answer: MALFORMED,
             entry: NO_EDGE,
-            next: 0,
+            next: at,
         };
     }
     let values = line.values;
@@ -158,7 +163,7 @@ pub fn read_edge(s: &[u8], at: usize, ops: usize) -> EdgeRead
         return EdgeRead {
             answer,
             entry: NO_EDGE,
-            next: 0,
+            next: at,
         };
     }
     EdgeRead {

@@ -1,5 +1,5 @@
 // The sections of a sheet: a line with a count, then that many lines. The answer, how many entries, the entries with 0
-// past them, and the place after.
+// past them, and the place after. With a refusal there are no entries, and the place is where the refused line begins.
 ghost use mathlib.Core.List.{[]};
 ghost use Prim.Native.Nat.{_≤_};
 ghost use lib.ListN.{drop, length};
@@ -33,14 +33,14 @@ pub struct TypesRead {
     pub next: usize,
 }
 
-fn no_types(answer: usize) -> TypesRead
-    ensures { λ r. ⌜ Refuses answer mostTypes noType (r .answer) (r .count) (r .entries) (r .next) ⌝ }
+fn no_types(answer: usize, at: usize) -> TypesRead
+    ensures { λ r. ⌜ Refuses answer at mostTypes noType (r .answer) (r .count) (r .entries) (r .next) ⌝ }
 {
     TypesRead {
         answer,
         count: 0,
         entries: [NO_TYPE; MOST_TYPES],
-        next: 0,
+        next: at,
     }
 }
 
@@ -55,7 +55,7 @@ fn type_lines(s: &[u8], at: usize, count: usize) -> TypesRead
     while i < count {
         let line = read_type(s, p);
         if line.answer != 0 {
-            return no_types(line.answer);
+            return no_types(line.answer, line.next);
         }
         let entry = line.entry;
         entries[i] = entry;
@@ -72,11 +72,12 @@ fn type_lines(s: &[u8], at: usize, count: usize) -> TypesRead
 
 // The line `types=` with a count, and that many lines of types.
 pub fn read_types(s: &[u8], at: usize) -> TypesRead
+    requires { ⌜ at ≤ length (now s) ⌝ }
     ensures { λ r. ⌜ Entries mostTypes noType (now (s .entry)) (r .answer) (r .count) (r .entries) (r .next) (sectionFrom typesKind typeKind (drop at (now (s .entry)))) ⌝ }
 {
     let count = read_number(s, at, b"types=", TYPES);
     if count.answer != 0 {
-        return no_types(count.answer);
+        return no_types(count.answer, count.next);
     }
     type_lines(s, count.next, count.value)
 }
@@ -88,14 +89,14 @@ pub struct OpsRead {
     pub next: usize,
 }
 
-fn no_ops(answer: usize) -> OpsRead
-    ensures { λ r. ⌜ Refuses answer mostOperations noOperation (r .answer) (r .count) (r .entries) (r .next) ⌝ }
+fn no_ops(answer: usize, at: usize) -> OpsRead
+    ensures { λ r. ⌜ Refuses answer at mostOperations noOperation (r .answer) (r .count) (r .entries) (r .next) ⌝ }
 {
     OpsRead {
         answer,
         count: 0,
         entries: [NO_OPERATION; MOST_OPERATIONS],
-        next: 0,
+        next: at,
     }
 }
 
@@ -110,7 +111,7 @@ fn op_lines(s: &[u8], at: usize, count: usize, types: usize) -> OpsRead
     while i < count {
         let line = read_op(s, p, types);
         if line.answer != 0 {
-            return no_ops(line.answer);
+            return no_ops(line.answer, line.next);
         }
         let entry = line.entry;
         entries[i] = entry;
@@ -127,11 +128,12 @@ fn op_lines(s: &[u8], at: usize, count: usize, types: usize) -> OpsRead
 
 // The line `ops=` with a count, and that many lines of operations.
 pub fn read_ops(s: &[u8], at: usize, types: usize) -> OpsRead
+    requires { ⌜ at ≤ length (now s) ⌝ }
     ensures { λ r. ⌜ Entries mostOperations noOperation (now (s .entry)) (r .answer) (r .count) (r .entries) (r .next) (sectionFrom opsKind (opKind types) (drop at (now (s .entry)))) ⌝ }
 {
     let count = read_number(s, at, b"ops=", OPERATIONS);
     if count.answer != 0 {
-        return no_ops(count.answer);
+        return no_ops(count.answer, count.next);
     }
     op_lines(s, count.next, count.value, types)
 }
@@ -143,14 +145,14 @@ pub struct EdgesRead {
     pub next: usize,
 }
 
-fn no_edges(answer: usize) -> EdgesRead
-    ensures { λ r. ⌜ Refuses answer mostEdges noEdge (r .answer) (r .count) (r .entries) (r .next) ⌝ }
+fn no_edges(answer: usize, at: usize) -> EdgesRead
+    ensures { λ r. ⌜ Refuses answer at mostEdges noEdge (r .answer) (r .count) (r .entries) (r .next) ⌝ }
 {
     EdgesRead {
         answer,
         count: 0,
         entries: [NO_EDGE; MOST_EDGES],
-        next: 0,
+        next: at,
     }
 }
 
@@ -165,7 +167,7 @@ fn edge_lines(s: &[u8], at: usize, count: usize, ops: usize) -> EdgesRead
     while i < count {
         let line = read_edge(s, p, ops);
         if line.answer != 0 {
-            return no_edges(line.answer);
+            return no_edges(line.answer, line.next);
         }
         let entry = line.entry;
         entries[i] = entry;
@@ -182,11 +184,12 @@ fn edge_lines(s: &[u8], at: usize, count: usize, ops: usize) -> EdgesRead
 
 // The line `edges=` with a count, and that many lines of edges.
 pub fn read_edges(s: &[u8], at: usize, ops: usize) -> EdgesRead
+    requires { ⌜ at ≤ length (now s) ⌝ }
     ensures { λ r. ⌜ Entries mostEdges noEdge (now (s .entry)) (r .answer) (r .count) (r .entries) (r .next) (sectionFrom edgesKind (edgeKind ops) (drop at (now (s .entry)))) ⌝ }
 {
     let count = read_number(s, at, b"edges=", EDGES);
     if count.answer != 0 {
-        return no_edges(count.answer);
+        return no_edges(count.answer, count.next);
     }
     edge_lines(s, count.next, count.value, ops)
 }

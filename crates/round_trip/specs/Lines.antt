@@ -2,15 +2,14 @@
 -- Assumes nothing.
 use mathlib.Core.Path.{_≡_, refl, sym, ap, subst, _∙_}
 use mathlib.Core.List.{List, [], _∷_, _++_, map, append-assoc, append-nil}
-use Prim.Native.Nat.{ℕ, zero, suc, _<_}
-use native.Mathlib.Omega.{arith}
+use Prim.Native.Nat.{ℕ, zero, suc}
 use lib.IntN.{ℤ}
 use lib.ListN.{length}
 use Rattle.text.specs.Text.{lineText}
 use Rattle.scan.specs.Line.{Fields, fields, bad, lineOf}
 use Rattle.scan.specs.RoundTrip.{reads-line, line-text}
 use Rattle.text.specs.Lines.{Line, linesText}
-use Rattle.reader.specs.Found.{Found, found, refused, judged, Kind, lineFrom, linesFrom, sectionFrom}
+use Rattle.reader.specs.Found.{Found, found, refused, Kind, lineFrom, linesFrom, sectionFrom}
 use Rattle.reader.specs.Steps.{line-in, line-inside, judged-found, no-found}
 use Rattle.round_trip.specs.All.{All}
 use Rattle.round_trip.specs.Lawful.{Lawful}
@@ -46,7 +45,7 @@ module _ {A : Type 0} (k : Kind A) (law : Lawful k) where
   unfolding lineFrom
   entry-at bs bad a rest e f = absurd (no-found (simp e at f))
   entry-at bs (fields vs left) a rest e f =
-      let g : _≡_ {A = Found A} (found (k .make vs) left) (found a rest) = judged-found (k .answer (k .make vs)) (k .make vs) left (simp e at f) .1 in
+      let g : _≡_ {A = Found A} (found (k .make vs) left) (found a rest) = judged-found (k .answer (k .make vs)) (k .make vs) bs left (simp e at f) .1 in
       let q : k .make vs ≡ a = cc in
       let l : left ≡ rest = cc in
       let r = line-text (k .key) (k .count) (k .minus) bs vs left e in
@@ -79,7 +78,7 @@ module _ {A : Type 0} (k : Kind A) (law : Lawful k) where
       → ((a : A) (left : List ℕ) → linesFrom k n (acc ++ (a ∷ [])) left ≡ found us rest → Read n (acc ++ (a ∷ [])) left us rest)
       → linesFrom k (suc n) acc bs ≡ found us rest → Read (suc n) acc bs us rest
   unfolding linesFrom linesText
-  entries-at n acc bs (refused m) us rest e ih g = absurd (no-found (simp e at g))
+  entries-at n acc bs (refused m b) us rest e ih g = absurd (no-found (simp e at g))
   entries-at n acc bs (found a left) us rest e ih g =
       let r = ih a left (simp e at g) in
       record {
@@ -117,7 +116,7 @@ module _ {A : Type 0} (counts : Kind ℕ) (counted : Lawful counts) (k : Kind A)
 
   section-at : (bs : List ℕ) (f : Found ℕ) (es : List A) (rest : List ℕ) → lineFrom counts bs ≡ f → sectionFrom counts k bs ≡ found es rest → SectionRead counts k bs es rest
   unfolding sectionFrom
-  section-at bs (refused m) es rest e g = absurd (no-found (simp e at g))
+  section-at bs (refused m b) es rest e g = absurd (no-found (simp e at g))
   section-at bs (found n left) es rest e g =
       let r = entries-text k law n [] left es rest (simp e at g) in
       let w : es ≡ r .es = r .all in
@@ -131,42 +130,3 @@ module _ {A : Type 0} (counts : Kind ℕ) (counted : Lawful counts) (k : Kind A)
 
   pub section-text : (bs : List ℕ) (es : List A) (rest : List ℕ) → sectionFrom counts k bs ≡ found es rest → SectionRead counts k bs es rest
   section-text bs es rest e = section-at bs (lineFrom counts bs) es rest refl e
-
--- ---- a refusal has a number
-
-judged-some : {A : Type 0} (m : ℕ) (a : A) (rest : List ℕ) {n : ℕ} → judged m a rest ≡ refused n → 0 < n
-judged-some zero a rest e = absurd (no-found (sym e))
-judged-some {A} (suc m) a rest {n} e = let z : _≡_ {A = Found A} (refused (suc m)) (refused n) = e in let q : suc m ≡ n = cc in omega arith
-
-line-some-at : {A : Type 0} (k : Kind A) (bs : List ℕ) (f : Fields) (n : ℕ) → lineOf (k .key) (k .count) (k .minus) bs ≡ f → lineFrom k bs ≡ refused n → 0 < n
-unfolding lineFrom
-line-some-at {A} k bs bad n e g = let z : _≡_ {A = Found A} (refused 2) (refused n) = simp e at g in let q : 2 ≡ n = cc in omega arith
-line-some-at {A} k bs (fields vs left) n e g = judged-some (k .answer (k .make vs)) (k .make vs) left (simp e at g)
-
-pub line-some : {A : Type 0} (k : Kind A) (bs : List ℕ) (n : ℕ) → lineFrom k bs ≡ refused n → 0 < n
-line-some k bs n e = line-some-at k bs (lineOf (k .key) (k .count) (k .minus) bs) n refl e
-
-module _ {A : Type 0} (k : Kind A) where
-  lines-some-at : (m : ℕ) (acc : List A) (bs : List ℕ) (f : Found A) (n : ℕ) → lineFrom k bs ≡ f
-      → ((a : A) (left : List ℕ) → linesFrom k m (acc ++ (a ∷ [])) left ≡ refused n → 0 < n) → linesFrom k (suc m) acc bs ≡ refused n → 0 < n
-  unfolding linesFrom
-  lines-some-at m acc bs (refused x) n e ih g =
-      let z : _≡_ {A = Found (List A)} (refused x) (refused n) = simp e at g in
-      let q : x ≡ n = cc in
-      subst (λ (y : ℕ). 0 < y) q (line-some k bs x e)
-  lines-some-at m acc bs (found a left) n e ih g = ih a left (simp e at g)
-
-  lines-some : (m : ℕ) (acc : List A) (bs : List ℕ) (n : ℕ) → linesFrom k m acc bs ≡ refused n → 0 < n
-  lines-some zero acc bs n e = let f : found acc bs ≡ refused n = (unfold linesFrom in e) in absurd (no-found (sym f))
-  lines-some (suc m) acc bs n e = lines-some-at m acc bs (lineFrom k bs) n refl (λ a left f. lines-some m (acc ++ (a ∷ [])) left n f) e
-
-  section-some-at : (counts : Kind ℕ) (bs : List ℕ) (f : Found ℕ) (n : ℕ) → lineFrom counts bs ≡ f → sectionFrom counts k bs ≡ refused n → 0 < n
-  unfolding sectionFrom
-  section-some-at counts bs (refused x) n e g =
-      let z : _≡_ {A = Found (List A)} (refused x) (refused n) = simp e at g in
-      let q : x ≡ n = cc in
-      subst (λ (y : ℕ). 0 < y) q (line-some counts bs x e)
-  section-some-at counts bs (found m left) n e g = lines-some m [] left n (simp e at g)
-
-  pub section-some : (counts : Kind ℕ) (bs : List ℕ) (n : ℕ) → sectionFrom counts k bs ≡ refused n → 0 < n
-  section-some counts bs n e = section-some-at counts bs (lineFrom counts bs) n refl e

@@ -3,7 +3,7 @@
 -- Assumes nothing.
 use mathlib.Core.Path.{_≡_, refl, sym, ap, subst, _∙_}
 use mathlib.Core.List.{List, [], _∷_, _++_, map, append-nil}
-use Prim.Native.Nat.{ℕ, _+_, _*_, _-_, _≤_, _<_}
+use Prim.Native.Nat.{ℕ, _+_, _*_, _-_, _≤_}
 use native.Mathlib.Omega.{arith}
 use lib.Dec.{ltb}
 use lib.ListN.{length, take, getD, replicate, length-append, length-replicate, List·getD-append}
@@ -15,7 +15,7 @@ use Rattle.text.specs.Filling.{lines-append}
 use Rattle.text.specs.Keys as key
 use Rattle.dependence.specs.declared.Edge.{Edge}
 use Rattle.dependence.specs.Graph.{noEdge}
-use Rattle.text.specs.Decimal.{by-test}
+use Rattle.laws.specs.Tests.{by-test}
 use Rattle.sheet.specs.declared.Sheet.{Sheet}
 use Rattle.sheet.specs.declared.Operation.{Operation}
 use Rattle.sheet.specs.declared.ResourceType.{ResourceType}
@@ -26,14 +26,15 @@ use Rattle.sheet.specs.Text.{typeLine, opLine, edgeLine, sheetLines, sheetText}
 use Rattle.reader.specs.declared.ReadAnswer.{ReadAnswer}
 use Rattle.reader.specs.Found.{Found, found, refused, Kind, lineFrom, sectionFrom, padded}
 use Rattle.reader.specs.Kinds.{horizonKind, capKind, typesKind, opsKind, edgesKind, typeKind, opKind, edgeKind}
-use Rattle.reader.specs.Read.{longestSheet, sheetOf, refusal, accepted, readOf}
+use Rattle.reader.specs.Read.{longestSheet, sheetOf, accepted, readOf}
 use Rattle.sheet.specs.AnswerLaws.{number-judged, type-judged, op-judged, edge-judged}
 use Rattle.reader.specs.Steps.{line-inside}
-use Rattle.reader.specs.Whole.{too-long, stops-horizon, stops-cap, stops-types, stops-ops, stops-edges, whole, something-more}
+use Rattle.reader.specs.Refusals.{not-refused}
+use Rattle.reader.specs.Whole.{too-long, stops-horizon, stops-cap, stops-types, stops-ops, stops-edges, whole, something-more, read-of}
 use Rattle.round_trip.specs.Accepted.{Arrays, trimmed, Accepted}
 use Rattle.round_trip.specs.All.{all-take, all-at}
 use Rattle.round_trip.specs.Lawful.{Lawful, number-lawful, type-lawful, op-lawful, edge-lawful}
-use Rattle.round_trip.specs.Lines.{entryText, entriesText, AllInside, reads-entry, entry-text, reads-section, section-text, line-some, section-some}
+use Rattle.round_trip.specs.Lines.{entryText, entriesText, AllInside, reads-entry, entry-text, reads-section, section-text}
 use Rattle.round_trip.specs.Short.{entry-length, entries-length}
 
 -- ---- a sheet as its numbers and lists
@@ -117,7 +118,8 @@ module _ {horizon cap r : ℕ} {types : List ResourceType} {n : ℕ} {ops : List
 
   lists-read : readOf (listsText horizon cap r types n ops m edges) ≡ accepted (sheetOf horizon cap types ops edges)
   lists-read =
-      whole (listsText horizon cap r types n ops m edges) lists-short
+      read-of (listsText horizon cap r types n ops m edges)
+      (whole (listsText horizon cap r types n ops m edges) lists-short
       horizon _ (reads-entry horizonKind (number-lawful key.horizonKey range.horizon) horizon _ (g .horizon-in))
       cap _ (reads-entry capKind (number-lawful key.capKey range.cap) cap _ (g .cap-in))
       types _ (section typesKind (number-lawful key.typesKey range.types) typeKind type-lawful r types _ (g .types-in) (g .types-count) (g .each-type)) r (g .types-count)
@@ -125,7 +127,7 @@ module _ {horizon cap r : ℕ} {types : List ResourceType} {n : ℕ} {ops : List
       edges []
       (ap (λ (l : List ℕ). sectionFrom edgesKind (edgeKind n) (entryText edgesKind m ++ l)) (sym (append-nil (entriesText (edgeKind n) edges)))
       ∙ section edgesKind (number-lawful key.edgesKey range.edges) (edgeKind n) (edges-lawful n (g .ops-in)) m edges [] (g .edges-in) (g .edges-count) (g .each-edge))
-      refl
+      refl)
 
 -- ---- from a sheet to its lists
 
@@ -207,9 +209,6 @@ module _ (horizon cap : ℕ) (types : List ResourceType) (ops : List Operation) 
 -- ---- what is accepted
 
 module _ (bs : List ℕ) (z : readOf bs .answer ≡ 0) (h : length bs ≤ longestSheet) where
-  not-refused : (n : ℕ) → readOf bs ≡ refusal n → 0 < n → ⊥
-  not-refused n e l = let q : n ≡ 0 = sym (ap (λ (r : ReadAnswer). r .answer) e) ∙ z in omega arith
-
   module _ (horizon : ℕ) (b₁ : List ℕ) (e₁ : lineFrom horizonKind bs ≡ found horizon b₁) where
     module _ (cap : ℕ) (b₂ : List ℕ) (e₂ : lineFrom capKind b₁ ≡ found cap b₂) where
       module _ (types : List ResourceType) (b₃ : List ℕ) (e₃ : sectionFrom typesKind typeKind b₂ ≡ found types b₃) where
@@ -244,40 +243,36 @@ module _ (bs : List ℕ) (z : readOf bs .answer ≡ 0) (h : length bs ≤ longes
                 arrays = made-arrays horizon cap types ops edges g;
                 zeros = made-trimmed horizon cap types ops edges g;
                 text = t ∙ sym (made-text horizon cap types ops edges g);
-                result = whole bs h horizon b₁ e₁ cap b₂ e₂ types b₃ e₃ (length types) refl ops b₄ e₄ (length ops) refl edges [] e₅ refl;
+                result = read-of bs (whole bs h horizon b₁ e₁ cap b₂ e₂ types b₃ e₃ (length types) refl ops b₄ e₄ (length ops) refl edges [] e₅ refl);
               }
 
           at-edges : (f : Found (List Edge)) → sectionFrom edgesKind (edgeKind (length ops)) b₄ ≡ f → Accepted bs
-          at-edges (refused n) e =
-              absurd (not-refused n (stops-edges bs h horizon b₁ e₁ cap b₂ e₂ types b₃ e₃ (length types) refl ops b₄ e₄ (length ops) refl n e) (section-some (edgeKind (length ops)) edgesKind b₄ n e))
+          at-edges (refused n b) e = absurd (not-refused bs z (stops-edges bs h horizon b₁ e₁ cap b₂ e₂ types b₃ e₃ (length types) refl ops b₄ e₄ (length ops) refl n b e))
           at-edges (found edges []) e = at-end edges e
           at-edges (found edges (x ∷ xs)) e =
-              absurd (not-refused 2 (something-more bs h horizon b₁ e₁ cap b₂ e₂ types b₃ e₃ (length types) refl ops b₄ e₄ (length ops) refl edges (x ∷ xs) e x xs refl) (omega arith))
+              absurd (not-refused bs z (something-more bs h horizon b₁ e₁ cap b₂ e₂ types b₃ e₃ (length types) refl ops b₄ e₄ (length ops) refl edges (x ∷ xs) e x xs refl))
 
         at-ops : (f : Found (List Operation)) → sectionFrom opsKind (opKind (length types)) b₃ ≡ f → Accepted bs
-        at-ops (refused n) e = absurd (not-refused n (stops-ops bs h horizon b₁ e₁ cap b₂ e₂ types b₃ e₃ (length types) refl n e) (section-some (opKind (length types)) opsKind b₃ n e))
+        at-ops (refused n b) e = absurd (not-refused bs z (stops-ops bs h horizon b₁ e₁ cap b₂ e₂ types b₃ e₃ (length types) refl n b e))
         at-ops (found ops b₄) e = at-edges ops b₄ e (sectionFrom edgesKind (edgeKind (length ops)) b₄) refl
 
       at-types : (f : Found (List ResourceType)) → sectionFrom typesKind typeKind b₂ ≡ f → Accepted bs
-      at-types (refused n) e = absurd (not-refused n (stops-types bs h horizon b₁ e₁ cap b₂ e₂ n e) (section-some typeKind typesKind b₂ n e))
+      at-types (refused n b) e = absurd (not-refused bs z (stops-types bs h horizon b₁ e₁ cap b₂ e₂ n b e))
       at-types (found types b₃) e = at-ops types b₃ e (sectionFrom opsKind (opKind (length types)) b₃) refl
 
     at-cap : (f : Found ℕ) → lineFrom capKind b₁ ≡ f → Accepted bs
-    at-cap (refused n) e = absurd (not-refused n (stops-cap bs h horizon b₁ e₁ n e) (line-some capKind b₁ n e))
+    at-cap (refused n b) e = absurd (not-refused bs z (stops-cap bs h horizon b₁ e₁ n b e))
     at-cap (found cap b₂) e = at-types cap b₂ e (sectionFrom typesKind typeKind b₂) refl
 
   at-horizon : (f : Found ℕ) → lineFrom horizonKind bs ≡ f → Accepted bs
-  at-horizon (refused n) e = absurd (not-refused n (stops-horizon bs h n e) (line-some horizonKind bs n e))
+  at-horizon (refused n b) e = absurd (not-refused bs z (stops-horizon bs h n b e))
   at-horizon (found horizon b₁) e = at-cap horizon b₁ e (lineFrom capKind b₁) refl
 
 -- what is accepted is the text of a sheet in range
 pub only-text : (bs : List ℕ) → readOf bs .answer ≡ 0 → Accepted bs
 only-text bs z =
     by-test (ltb longestSheet (length bs))
-    (λ t.
-    let e = too-long bs (ltb-true longestSheet (length bs) t) in
-    let q : 1 ≡ 0 = sym (ap (λ (r : ReadAnswer). r .answer) e) ∙ z in
-    absurd (omega arith))
+    (λ t. absurd (not-refused bs z (too-long bs (ltb-true longestSheet (length bs) t))))
     (λ t. at-horizon bs z (ltb-false longestSheet (length bs) t) (lineFrom horizonKind bs) refl)
 
 -- writing what was read yields its own bytes

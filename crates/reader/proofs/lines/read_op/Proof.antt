@@ -21,7 +21,7 @@ made : (c : tie.After-read-line) → not (c .read-line .result .ok) ≡ false
     (record { resource = natAbs (toZ w32 (ofZ w32 (getD (c .read-line .result .values) 0 (pos 0)))) })
     ((opKind (c .before .before .before .args .types)) .make (take 1 (c .read-line .result .values)))
 made c t =
-    let at = value-at (opKind (c .before .before .before .args .types)) _ _ _ (c .read-line .ensures .0) (c .read-line .ensures .1) t in
+    let at = value-at (opKind (c .before .before .before .args .types)) _ (c .before .before .before .args .at) _ (c .read-line .ensures .0) (c .read-line .ensures .1) t in
     λ j. record { resource = natAbs (at 0 (omega arith) j) }
 
 slice-aggregate-read-line : tie.Need-slice-aggregate-read-line
@@ -33,7 +33,7 @@ read-line-requires c κs = search needs
 returns : tie.Need-returns
 returns c =
     let r = c .before .before in
-    malformed (opKind (r .before .before .before .args .types)) _ _ _ (r .read-line .ensures .0) (r .read-line .ensures .1) noOperation (c .if1 .taken)
+    malformed (opKind (r .before .before .before .args .types)) _ (r .before .before .before .args .at) _ (r .read-line .ensures .0) (r .read-line .ensures .1) (r .before .before .before .pre) noOperation (c .if1 .taken)
 
 array-copy-out-t15 : tie.Need-array-copy-out-t15
 array-copy-out-t15 c = search needs
@@ -41,7 +41,7 @@ array-copy-out-t15 c = search needs
 cast-t16 : tie.Need-cast-t16
 cast-t16 c =
     let r = c .before .before .before .before in
-    cast-at (opKind (r .before .before .before .args .types)) _ _ _ (r .read-line .ensures .0) (r .read-line .ensures .1) (c .before .before .if1 .left) 0 (omega arith) (λ z. absurd (omega arith))
+    cast-at (opKind (r .before .before .before .args .types)) _ (r .before .before .before .args .at) _ (r .read-line .ensures .0) (r .read-line .ensures .1) (c .before .before .if1 .left) 0 (omega arith) (λ z. absurd (omega arith))
 
 op-answer-requires : tie.Need-op-answer-requires
 op-answer-requires c κs = search needs
@@ -50,13 +50,13 @@ returns-2 : tie.Need-returns-2
 returns-2 c =
     let r = c .before .before .before .before .before .before in
     let t = c .before .before .before .before .if1 .left in
-    refuses (opKind (r .before .before .before .args .types)) _ _ _ (r .read-line .ensures .0) (r .read-line .ensures .1) t _ (made r t) noOperation (c .before .op-answer .ensures) (c .if2 .taken)
+    refuses (opKind (r .before .before .before .args .types)) _ (r .before .before .before .args .at) _ (r .read-line .ensures .0) (r .read-line .ensures .1) t _ (made r t) (r .before .before .before .pre) noOperation (c .before .op-answer .ensures) (c .if2 .taken)
 
 returns-3 : tie.Need-returns-3
 returns-3 c =
     let r = c .before .before .before .before .before .before in
     let t = c .before .before .before .before .if1 .left in
-    entry (opKind (r .before .before .before .args .types)) _ _ _ (r .read-line .ensures .0) (r .read-line .ensures .1) t _ (made r t) (c .before .op-answer .ensures) (c .if2 .left)
+    entry (opKind (r .before .before .before .args .types)) _ (r .before .before .before .args .at) _ (r .read-line .ensures .0) (r .read-line .ensures .1) t _ (made r t) (c .before .op-answer .ensures) (c .if2 .left)
 
 pub read-op-spec : {M : Type 1} → statement M
 read-op-spec =

@@ -21,7 +21,7 @@ made : (c : tie.After-read-line) → not (c .read-line .result .ok) ≡ false
     (record { instances = natAbs (toZ w32 (ofZ w32 (getD (c .read-line .result .values) 0 (pos 0)))); latency = natAbs (toZ w32 (ofZ w32 (getD (c .read-line .result .values) 1 (pos 0)))) })
     (typeKind .make (take 2 (c .read-line .result .values)))
 made c t =
-    let at = value-at typeKind _ _ _ (c .read-line .ensures .0) (c .read-line .ensures .1) t in
+    let at = value-at typeKind _ (c .before .before .before .args .at) _ (c .read-line .ensures .0) (c .read-line .ensures .1) t in
     λ j. record { instances = natAbs (at 0 (omega arith) j); latency = natAbs (at 1 (omega arith) j) }
 
 slice-aggregate-read-line : tie.Need-slice-aggregate-read-line
@@ -33,7 +33,7 @@ read-line-requires c κs = search needs
 returns : tie.Need-returns
 returns c =
     let r = c .before .before in
-    malformed typeKind _ _ _ (r .read-line .ensures .0) (r .read-line .ensures .1) noType (c .if1 .taken)
+    malformed typeKind _ (r .before .before .before .args .at) _ (r .read-line .ensures .0) (r .read-line .ensures .1) (r .before .before .before .pre) noType (c .if1 .taken)
 
 array-copy-out-t14 : tie.Need-array-copy-out-t14
 array-copy-out-t14 c = search needs
@@ -41,7 +41,7 @@ array-copy-out-t14 c = search needs
 cast-t15 : tie.Need-cast-t15
 cast-t15 c =
     let r = c .before .before .before .before in
-    cast-at typeKind _ _ _ (r .read-line .ensures .0) (r .read-line .ensures .1) (c .before .before .if1 .left) 0 (omega arith) (λ z. absurd (omega arith))
+    cast-at typeKind _ (r .before .before .before .args .at) _ (r .read-line .ensures .0) (r .read-line .ensures .1) (c .before .before .if1 .left) 0 (omega arith) (λ z. absurd (omega arith))
 
 array-copy-out-t18 : tie.Need-array-copy-out-t18
 array-copy-out-t18 c = search needs
@@ -49,7 +49,7 @@ array-copy-out-t18 c = search needs
 cast-t19 : tie.Need-cast-t19
 cast-t19 c =
     let r = c .before .before .before .before .before in
-    cast-at typeKind _ _ _ (r .read-line .ensures .0) (r .read-line .ensures .1) (c .before .before .before .if1 .left) 1 (omega arith) (λ z. absurd (omega arith))
+    cast-at typeKind _ (r .before .before .before .args .at) _ (r .read-line .ensures .0) (r .read-line .ensures .1) (c .before .before .before .if1 .left) 1 (omega arith) (λ z. absurd (omega arith))
 
 type-answer-requires : tie.Need-type-answer-requires
 type-answer-requires c κs = search needs
@@ -58,13 +58,13 @@ returns-2 : tie.Need-returns-2
 returns-2 c =
     let r = c .before .before .before .before .before .before .before in
     let t = c .before .before .before .before .before .if1 .left in
-    refuses typeKind _ _ _ (r .read-line .ensures .0) (r .read-line .ensures .1) t _ (made r t) noType (c .before .type-answer .ensures) (c .if2 .taken)
+    refuses typeKind _ (r .before .before .before .args .at) _ (r .read-line .ensures .0) (r .read-line .ensures .1) t _ (made r t) (r .before .before .before .pre) noType (c .before .type-answer .ensures) (c .if2 .taken)
 
 returns-3 : tie.Need-returns-3
 returns-3 c =
     let r = c .before .before .before .before .before .before .before in
     let t = c .before .before .before .before .before .if1 .left in
-    entry typeKind _ _ _ (r .read-line .ensures .0) (r .read-line .ensures .1) t _ (made r t) (c .before .type-answer .ensures) (c .if2 .left)
+    entry typeKind _ (r .before .before .before .args .at) _ (r .read-line .ensures .0) (r .read-line .ensures .1) t _ (made r t) (c .before .type-answer .ensures) (c .if2 .left)
 
 pub read-type-spec : {M : Type 1} → statement M
 read-type-spec =
