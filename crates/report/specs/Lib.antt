@@ -1,6 +1,7 @@
 -- ---- definitions to believe
 pub mod Print
 pub mod PlanText
+pub mod IntervalText
 pub mod Printing
 -- ---- laws
 pub mod Small

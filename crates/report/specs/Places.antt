@@ -1,21 +1,14 @@
 -- Laws of the lines of one interval: how many they are, and which stands where.
 -- Assumes nothing.
-use mathlib.Core.Path.{_≡_, refl, sym, ap, _∙_}
-use mathlib.Core.List.{List, [], _∷_, map}
+use mathlib.Core.Path.{_≡_, refl, ap, _∙_}
+use mathlib.Core.List.{List, [], _∷_}
 use Prim.Native.Nat.{ℕ, zero, suc, _+_, _-_, _≤_, _<_}
 use native.Mathlib.Omega.{arith}
 use native.Mathlib.Decide.{decLt}
-use lib.IntN.{ℤ, pos}
-use lib.ListN.{length, getD, take, length-map, List·getD-map}
-use lib.Seq.{ext-getD}
+use lib.ListN.{length, getD, take}
 use borrow.Author.Tests.{eq-eqb, ne-eqb}
 use Rattle.laws.specs.Entry.{vec}
-use Rattle.sizes.specs.Sizes.{mostOperations}
-use Rattle.text.specs.Sizes.{mostValues}
-use Rattle.text.specs.Text.{lineText}
 use Rattle.text.specs.Lines.{Line, noLine}
-use Rattle.text.specs.Line.{keyOf, textOf}
-use Rattle.text.specs.Joined.{line-text}
 use Rattle.sheet.specs.declared.Sheet.{Sheet}
 use Rattle.plan.specs.declared.PlanAnswer.{PlanAnswer}
 use Rattle.report.specs.Print.{answerLine, intervalLine, loopLine, atLine, each, detail, intervalLines}
@@ -24,7 +17,7 @@ use Rattle.report.specs.Print.{answerLine, intervalLine, loopLine, atLin
 abbrev pub headLines : ℕ
 headLines = 2
 
-each-length : (n : ℕ) (f : ℕ → Line) → length (each n f) ≡ n
+pub each-length : {A : Type 0} (n : ℕ) (f : ℕ → A) → length (each n f) ≡ n
 unfolding each
 each-length zero f = refl
 each-length (suc n) f = ap suc (each-length n (λ i. f (suc i)))
@@ -89,22 +82,3 @@ module _ (s : Sheet) (L : ℕ) (a : PlanAnswer) where
       at : Dec (0 < a .answer) → (a .answer ≡ 0) × (i - headLines < s .«op_count»)
       at (yes p) = let c = count-else (λ z. omega arith) n in absurd (omega arith)
       at (no p) = let z : a .answer ≡ 0 = omega arith in let c = count-0 z in (z, omega arith)
-
--- numbers one by one, and the first of them
-numbers-are : (es : List ℕ) (vs : List ℤ) → length es ≡ mostOperations → length vs ≡ mostValues → ((k : ℕ) → k < mostValues → getD vs k (pos 0) ≡ pos (getD es k 0)) → vs ≡ map pos es
-numbers-are es vs l m e =
-    ext-getD (pos 0) vs (map pos es) (m ∙ sym l ∙ sym (length-map es pos)) (λ k h. e k (omega arith) ∙ sym (List·getD-map pos es k 0))
-
-take-map : (n : ℕ) (es : List ℕ) → take n (map pos es) ≡ map pos (take n es)
-take-map zero es = refl
-take-map (suc n) [] = refl
-take-map (suc n) (e ∷ es) = ap (λ (l : List ℤ). pos e ∷ l) (take-map n es)
-
--- the number of the key `loop=`
-abbrev loopNumber : ℕ
-loopNumber = 10
-
--- the text of the loop's line
-pub loop-text : (n : ℕ) (es : List ℕ) (vs : List ℤ) → length es ≡ mostOperations → length vs ≡ mostValues → ((k : ℕ) → k < mostValues → getD vs k (pos 0) ≡ pos (getD es k 0))
-    → textOf (record { key = loopNumber; count = n; values = vs }) ≡ lineText (keyOf loopNumber) (map pos (take n es))
-loop-text n es vs l m e = line-text loopNumber n vs (map pos (take n es)) (ap (take n) (numbers-are es vs l m e) ∙ take-map n es)

@@ -30,8 +30,8 @@ loopLine ks = record { key = key.loopKey; values = map pos ks }
 abbrev pub atLine : ℕ → ℕ → Line
 atLine t u = record { key = key.atKey; values = pos t ∷ pos u ∷ [] }
 
--- one line for each of n operations
-unfoldable pub each : ℕ → (ℕ → Line) → List Line
+-- one for each of n: a line for each operation, a number for each column
+unfoldable pub each : {A : Type 0} → ℕ → (ℕ → A) → List A
 each zero f = []
 each (suc n) f = f 0 ∷ each n (λ i. f (suc i))
 

@@ -14,6 +14,7 @@ use Rattle.dependence.specs.Rules.{Chain, here, step}
 use Rattle.sheet.specs.declared.Sheet.{Sheet}
 use Rattle.sheet.specs.Sheet.{InRange, Interval, typeOf}
 use Rattle.sheet.specs.Questions.{at-no, at-yes}
+use Rattle.sheet.specs.Loop.{Loop}
 use Rattle.sheet.specs.Facts.{horizon-most, cap-most, ops-most, edges-most, op-instances-most}
 use Rattle.plan.specs.declared.PlanAnswer.{PlanAnswer}
 use Rattle.plan.specs.Rules.{Plan, InstanceAllowed}
@@ -49,6 +50,14 @@ chain-small h here i = omega arith
 chain-small h (step k c) zero = omega arith
 chain-small h (step k c) (suc i) = chain-small h c i
 
+-- the edges of a loop are edges of the sheet
+pub loop-edges-small : {A : Type 0} {s : Sheet} {L : ℕ} {made : ℕ → List ℕ → A} {a : A} → InRange s → (p : Loop s L made a) → SmallList (p .edges)
+loop-edges-small ok p i = let e = p .padded .front i in let b = chain-small (edges-most ok) (p .first .bad .chain) i in omega arith
+
+-- an interval of a sheet in range
+pub interval-small : {s : Sheet} {L : ℕ} → InRange s → Interval s L → L ≤ threeDigits
+interval-small ok v = let c = cap-most ok in let l = v .high in omega arith
+
 module _ {s : Sheet} {L : ℕ} (ok : InRange s) (v : Interval s L) where
   instance-small : (i u : ℕ) → i < s .«op_count» → InstanceAllowed s i u → u ≤ threeDigits
   instance-small i u h a = at (decLt 0 (typeOf s i .instances))
@@ -66,14 +75,11 @@ module _ {s : Sheet} {L : ℕ} (ok : InRange s) (v : Interval s L) where
     unit-small z i (yes l) = instance-small i (vec us i) l (p .instance i l)
     unit-small z i (no l) = let e = z .rest i (omega arith) in omega arith
 
-  interval-small : L ≤ threeDigits
-  interval-small = let c = cap-most ok in let l = v .high in omega arith
-
   -- 5 with edges of the sheet
   loop-small : (n : ℕ) (es : List ℕ) → SmallList es → length es ≡ mostOperations → Small s L (looped n es)
   loop-small n es e l = record {
     answer = omega arith;
-    interval = interval-small;
+    interval = interval-small ok v;
     ops = ops-most ok;
     starts = zero-small;
     instances = zero-small;
@@ -85,7 +91,7 @@ module _ {s : Sheet} {L : ℕ} (ok : InRange s) (v : Interval s L) where
   given-small : (ts us : List ℕ) → SmallList ts → SmallList us → Small s L (planned ts us)
   given-small ts us t u = record {
     answer = omega arith;
-    interval = interval-small;
+    interval = interval-small ok v;
     ops = ops-most ok;
     starts = t;
     instances = u;
@@ -97,12 +103,11 @@ module _ {s : Sheet} {L : ℕ} (ok : InRange s) (v : Interval s L) where
   small (at-no n _) = absurd (n ok)
   small (at-yes _ (at-no n _)) = absurd (n v)
   small (at-yes _ (at-yes _ (at-no _ p))) =
-      let edges : SmallList (p .edges) = λ i. let e = p .padded .front i in let b = chain-small (edges-most ok) (p .first .bad .chain) i in omega arith in
-      subst (Small s L) (sym (p .pinned)) (loop-small (length (p .walk)) (p .edges) edges (p .padded .whole))
+      subst (Small s L) (sym (p .pinned)) (loop-small (length (p .walk)) (p .edges) (loop-edges-small ok p) (p .padded .whole))
   small (at-yes _ (at-yes _ (at-yes _ (at-no _ e)))) =
       subst (Small s L) (sym e) (record {
         answer = omega arith;
-        interval = interval-small;
+        interval = interval-small ok v;
         ops = ops-most ok;
         starts = zero-small;
         instances = zero-small;

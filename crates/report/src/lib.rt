@@ -3,19 +3,23 @@ ghost use mathlib.Core.Path.{_≡_};
 ghost use mathlib.Core.List.{[], _∷_};
 ghost use Prim.Native.Nat.{_≤_};
 ghost use lib.ListN.{length};
-ghost use Rattle.text.specs.Text.{over};
+ghost use Rattle.text.specs.Text.{over, bufferOf};
+ghost use Rattle.text.specs.Line.{writtenOf};
 ghost use Rattle.text.specs.Sizes.{threeDigits};
 ghost use Rattle.text.specs.Lines.{linesText};
 ghost use Rattle.sheet.specs.Sheet.{InRange};
 ghost use Rattle.report.specs.Print.{answerLine, Run, Printed};
 ghost use Rattle.report.specs.Bounds.{answerMost};
-ghost use Rattle.report.specs.PlanText.{PlanText};
+ghost use Rattle.report.specs.Small.{Small};
+ghost use Rattle.report.specs.PlanText.{PlanText, planText};
+ghost use Rattle.report.specs.IntervalText.{IntervalText};
 ghost use Rattle.report.specs.Printing.{room, Put, Reported};
+use plan::PlanAnswer;
 use sheet::Sheet;
 use sizes::MOST_OPERATIONS;
 use text::Written;
 
-mod lines; // lines.rt: the lines of one interval, by their places
+mod interval_lines; // interval_lines.rt: the lines of one interval, by their places
 
 // Room for whatever leastplan prints.
 pub const ROOM: usize = 8192;
@@ -27,6 +31,22 @@ pub struct PlanWritten {
     pub count: usize,
     pub loop_length: usize,
     pub loop_edges: [usize; MOST_OPERATIONS],
+}
+
+// The lines of one interval at the front of `out` and their count of bytes; 9 where they do not fit, and then `out`
+// stays as it was.
+fn put_interval(out: &mut [u8], sheet: Sheet, interval: usize, a: PlanAnswer) -> Written
+    requires { ⌜ Small sheet interval a ⌝ }
+    ensures { λ r. ⌜ (r ≡ writtenOf (planText sheet interval a) (now (out .entry))) × (now (out .exit) ≡ bufferOf (planText sheet interval a) (now (out .entry))) ⌝ }
+{
+    if out.len() < interval_lines::text_length(sheet, interval, a) {
+        return Written {
+            answer: 9,
+            count: 0,
+        };
+    }
+    let count = interval_lines::fill(out, sheet, interval, a);
+    Written { answer: 0, count }
 }
 
 // The plan's text at the front of `out` and its count of bytes, or why there is none: the refusal of the plan at that
@@ -45,21 +65,29 @@ pub fn plan_text(sheet: Sheet, interval: usize, out: &mut [u8]) -> PlanWritten
             loop_edges,
         };
     }
-    if out.len() < lines::text_length(sheet, interval, a) {
-        return PlanWritten {
-            answer: 9,
-            count: 0,
-            loop_length: 0,
-            loop_edges: [0; MOST_OPERATIONS],
-        };
-    }
-    let count = lines::fill(out, sheet, interval, a);
+    let written = put_interval(out, sheet, interval, a);
     PlanWritten {
-        answer: 0,
-        count,
+        answer: written.answer,
+        count: written.count,
         loop_length: 0,
         loop_edges: [0; MOST_OPERATIONS],
     }
+}
+
+// The lines that leastplan prints for that interval, with 0, 5 or 6, at the front of `out` and their count of bytes; or
+// the sheet's refusal, 4, or 9 where they do not fit, and then `out` stays as it was.
+pub fn interval_text(sheet: Sheet, interval: usize, out: &mut [u8]) -> Written
+    ensures { λ r. ⌜ IntervalText sheet interval (now (out .entry)) r (now (out .exit)) ⌝ }
+{
+    let refusal = sheet::asked(sheet, interval);
+    if refusal != 0 {
+        return Written {
+            answer: refusal,
+            count: 0,
+        };
+    }
+    let a = schedule::plan_at(sheet, interval);
+    put_interval(out, sheet, interval, a)
 }
 
 // The line `answer=` alone, and how many bytes it has.
@@ -81,7 +109,7 @@ fn run(out: &mut [u8], sheet: Sheet) -> usize
     let mut interval = 1;
     while interval <= cap {
         let a = schedule::plan_at(sheet, interval);
-        at += lines::fill(&mut out[at..], sheet, interval, a);
+        at += interval_lines::fill(&mut out[at..], sheet, interval, a);
         if a.answer == 0 {
             return at;
         }
