@@ -1,0 +1,5 @@
+-- ---- definitions to believe
+pub mod Arguments
+pub mod Requests
+-- ---- laws
+pub mod Laws

@@ -1,0 +1,173 @@
+// The words of a command, `COMMAND [interval=L] [pair=P]`: what each argument says, and what all of them ask for. The
+// program `ask` takes the words from the system, and `commands` answers what they ask for.
+ghost use mathlib.Core.Path.{_≡_};
+ghost use Rattle.words.specs.Arguments.{numberAfter, onceMore, withWord};
+ghost use Rattle.words.specs.Requests.{intervalRows, counted, taking, requestIn, requestOf};
+use scan::NO_MINUS;
+
+// A command and its numbers: an interval, and a pair.
+pub enum Command {
+    Bounds,
+    Starts(usize),
+    Separations(usize),
+    Plan(usize),
+    Order(usize, usize),
+    Check,
+    Write,
+}
+
+// The arguments by number.
+pub const INTERVAL: usize = 0;
+
+pub const PAIR: usize = 1;
+
+// What the words ask for: a command to be done, or what is wrong with them: no such command, a word that is no
+// argument, an argument that is missing, given more than once, or not taken by this command.
+pub enum Asked {
+    Do(Command),
+    Unknown,
+    Strange,
+    Missing(usize),
+    Twice(usize),
+    Foreign(usize),
+}
+
+// The arguments so far: how often each was given, 2 for twice or more, and its last number; whether some word is no
+// argument.
+pub struct Given {
+    pub intervals: usize,
+    pub interval: usize,
+    pub pairs: usize,
+    pub pair: usize,
+    pub strange: bool,
+}
+
+// Before the first word.
+pub const NOTHING: Given = Given {
+    intervals: 0,
+    interval: 0,
+    pairs: 0,
+    pair: 0,
+    strange: false,
+};
+
+// The number of an argument, or that the word is another.
+enum Argument {
+    Number(usize),
+    Other,
+}
+
+// The number of the argument with this key, where the line is that and nothing more.
+fn number_after(line: &[u8], key: &[u8]) -> Argument
+    ensures { λ r. ⌜ r ≡ numberAfter (now (key .entry)) (now (line .entry)) ⌝ }
+{
+    let read = scan::read_line(line, 0, key, 1, NO_MINUS);
+    if !read.ok {
+        return Argument::Other;
+    }
+    if read.next < line.len() {
+        return Argument::Other;
+    }
+    let values = read.values;
+    Argument::Number(values[0] as usize)
+}
+
+// Once, or twice and more.
+fn once_more(times: usize) -> usize
+    ensures { λ r. ⌜ r ≡ onceMore times ⌝ }
+{
+    if times == 0 {
+        return 1;
+    }
+    2
+}
+
+// One word more; `line` has its bytes and a line feed after them.
+pub fn with_word(given: Given, line: &[u8]) -> Given
+    ensures { λ r. ⌜ r ≡ withWord given (now (line .entry)) ⌝ }
+{
+    let mut more = given;
+    if let Argument::Number(n) = number_after(line, b"interval=") {
+        more.intervals = once_more(given.intervals);
+        more.interval = n;
+        return more;
+    }
+    if let Argument::Number(n) = number_after(line, b"pair=") {
+        more.pairs = once_more(given.pairs);
+        more.pair = n;
+        return more;
+    }
+    more.strange = true;
+    more
+}
+
+// What is then asked for, where an argument is given once if it is taken, and else not at all.
+fn counted(argument: usize, times: usize, taken: bool, then: Asked) -> Asked
+    ensures { λ r. ⌜ r ≡ counted argument times taken then ⌝ }
+{
+    if taken {
+        if times == 0 {
+            return Asked::Missing(argument);
+        }
+        if times != 1 {
+            return Asked::Twice(argument);
+        }
+        return then;
+    }
+    if times != 0 {
+        return Asked::Foreign(argument);
+    }
+    then
+}
+
+// The command, where the arguments are those that it takes.
+fn taking(given: Given, interval: bool, pair: bool, command: Command) -> Asked
+    ensures { λ r. ⌜ r ≡ taking given interval pair command ⌝ }
+{
+    if given.strange {
+        return Asked::Strange;
+    }
+    counted(
+        INTERVAL,
+        given.intervals,
+        interval,
+        counted(PAIR, given.pairs, pair, Asked::Do(command)),
+    )
+}
+
+// What is asked for by the name of a command at an interval.
+fn at_interval(name: &[u8], given: Given) -> Asked
+    ensures { λ r. ⌜ r ≡ requestIn intervalRows (now (name .entry)) given ⌝ }
+{
+    let interval = given.interval;
+    if check::same(name, b"starts") {
+        return taking(given, true, false, Command::Starts(interval));
+    }
+    if check::same(name, b"separations") {
+        return taking(given, true, false, Command::Separations(interval));
+    }
+    if check::same(name, b"plan") {
+        return taking(given, true, false, Command::Plan(interval));
+    }
+    if check::same(name, b"order") {
+        return taking(given, true, true, Command::Order(interval, given.pair));
+    }
+    Asked::Unknown
+}
+
+// The command of that name with its numbers, where the arguments are those that it takes, each once; else the first
+// thing that is wrong.
+pub fn request(name: &[u8], given: Given) -> Asked
+    ensures { λ r. ⌜ r ≡ requestOf (now (name .entry)) given ⌝ }
+{
+    if check::same(name, b"bounds") {
+        return taking(given, false, false, Command::Bounds);
+    }
+    if check::same(name, b"check") {
+        return taking(given, false, false, Command::Check);
+    }
+    if check::same(name, b"write") {
+        return taking(given, false, false, Command::Write);
+    }
+    at_interval(name, given)
+}
