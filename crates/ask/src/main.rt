@@ -1,0 +1,70 @@
+// ask: a command on a loop sheet, `ask COMMAND [interval=L] [pair=P]`, with the sheet on standard input.
+// The library says what the words ask for, `words::request`, and all that is then printed, `commands::answer`. With
+// words that ask for no command it says so on standard error, reads nothing and prints nothing.
+use commands::ROOM;
+use libc::STDIN_FILENO;
+use libc::STDOUT_FILENO;
+use reader::LONGEST_SHEET;
+use text::Written;
+use words::Asked;
+use words::Command;
+use words::Given;
+use words::NOTHING;
+
+mod told; // told.rt: what is said on standard error
+
+// One byte more than a sheet may have, so that a longer one is told.
+const INPUT: usize = LONGEST_SHEET + 1;
+
+// Room for the name of a command; a longer word is none.
+const LONGEST_NAME: usize = 16;
+
+// The program's own name and COMMAND come before the arguments.
+const FIRST_ARGUMENT: usize = 2;
+
+// Bytes of a word and a line feed after it; the longest argument, `interval=9999`, has fewer.
+const WORD_ROOM: usize = 32;
+
+// The word at a place too, as a line; of one that is too long, or missing, the line feed alone, which is no argument.
+fn with_word_at(given: Given, at: usize) -> Given {
+    let mut word = [0u8; WORD_ROOM];
+    let n = os::arg(at, &mut word);
+    if WORD_ROOM <= n {
+        return words::with_word(given, b"\n");
+    }
+    word[n] = b'\n';
+    words::with_word(given, &word[..n + 1])
+}
+
+// The words after the command.
+fn arguments() -> Given {
+    let count = os::arg_count();
+    let mut given = NOTHING;
+    for at in FIRST_ARGUMENT..count {
+        given = with_word_at(given, at);
+    }
+    given
+}
+
+// Reads the sheet and prints what the command says of it.
+fn print(command: Command) {
+    let mut input = [0u8; INPUT];
+    let n = io::read_full(STDIN_FILENO, &mut input);
+    let mut out = [0u8; ROOM];
+    let written: Written = commands::answer(command, &input[..n], &mut out);
+    let count = written.count;
+    io::write_all(STDOUT_FILENO, &out[..count]);
+}
+
+fn main() {
+    let mut name = [0u8; LONGEST_NAME];
+    let n = os::arg(1, &mut name);
+    match words::request(&name[..n], arguments()) {
+        Asked::Do(command) => print(command),
+        Asked::Unknown => told::unknown(),
+        Asked::Strange => told::strange(),
+        Asked::Missing(argument) => told::fault(argument, b" is missing"),
+        Asked::Twice(argument) => told::fault(argument, b" is given more than once"),
+        Asked::Foreign(argument) => told::fault(argument, b" is no argument of this command"),
+    }
+}

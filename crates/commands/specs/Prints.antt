@@ -1,0 +1,60 @@
+-- What a command prints for the bytes of a sheet, and where it goes.
+use Prim.Native.Nat.{ℕ, _≤_}
+use mathlib.Core.Path.{_≡_}
+use mathlib.Core.List.{List, [], _∷_}
+use lib.IntN.{ℤ}
+use lib.ListN.{length}
+use Rattle.text.specs.declared.Written.{Written}
+use Rattle.text.specs.Text.{bufferOf}
+use Rattle.text.specs.Line.{writtenOf}
+use Rattle.text.specs.Lines.{linesText}
+use Rattle.dependence.specs.declared.bound.Bound as recurrence
+use Rattle.dependence.specs.declared.loops.BadWalk as loops
+use Rattle.dependence.specs.declared.starts.Starts as earliest
+use Rattle.sheet.specs.declared.Sheet.{Sheet}
+use Rattle.sheet.specs.Text.{sheetText}
+use Rattle.reader.specs.Read.{readOf}
+use Rattle.reader.specs.Fault.{faultOf}
+use Rattle.timing.specs.Answers.{WalkAt, StartsAt, SeparationsAt, RecurrenceAt}
+use Rattle.plan.specs.declared.resource.Bound as resource
+use Rattle.plan.specs.declared.PlanAnswer.{PlanAnswer}
+use Rattle.plan.specs.Resource.{ResourceAt}
+use Rattle.plan.specs.Answers.{PlanAt}
+use Rattle.slot_order.specs.declared.SlotOrder.{SlotOrder}
+use Rattle.slot_order.specs.Answers.{SlotOrderAt}
+use Rattle.report.specs.Print.{answerLine}
+use Rattle.words.specs.declared.Command.{Command}
+use Rattle.words.specs.declared.Command.the-variants.{Bounds, Starts, Separations, Plan, Order, Check, Write}
+use Rattle.commands.specs.Listing.{boundsLines, startsLines, separationsLines, planLines, orderLines, refusalLines}
+
+-- of a sheet that was read: the lines of the service's answer; `check` has nothing to add, `write` gives the sheet's
+-- own text
+pub data Serves (s : Sheet) : Command → List ℕ → Type 0 where
+  bounds : {r : recurrence.Bound} {q : resource.Bound} → RecurrenceAt s r → ResourceAt s q → Serves s Bounds (linesText (boundsLines r q))
+  starts : {L : ℕ} {a : earliest.Starts} → StartsAt s L a → Serves s (Starts L) (linesText (startsLines s L a))
+  separations : {L : ℕ} {w : loops.BadWalk} {t : List (List ℤ)} → WalkAt s L w → SeparationsAt s L t → Serves s (Separations L) (linesText (separationsLines s L w t))
+  plan : {L : ℕ} {a : PlanAnswer} → PlanAt s L a → Serves s (Plan L) (linesText (planLines s L a))
+  order : {L pair : ℕ} {a : SlotOrder} → SlotOrderAt s L pair a → Serves s (Order L pair) (linesText (orderLines a))
+  check : Serves s Check (linesText (answerLine 0 ∷ []))
+  write : Serves s Write (sheetText s)
+
+-- of the bytes of a sheet
+pub data Prints (bytes : List ℕ) (command : Command) : List ℕ → Type 0 where
+  refused : (readOf bytes .answer ≡ 0 → ⊥) → Prints bytes command (linesText (refusalLines command (readOf bytes .answer) (faultOf bytes)))
+  read : readOf bytes .answer ≡ 0 → {text : List ℕ} → Serves (readOf bytes .sheet) command text → Prints bytes command text
+
+-- bytes that are enough for whatever a command prints
+abbrev pub room : ℕ
+room = 8192
+
+-- a text of which P holds, at the front of the buffer old where the whole of it fits, else 9
+pub record Put (P : List ℕ → Type 0) (old : List ℕ) (r : Written) (new : List ℕ) : Type 0 where
+  pub text : List ℕ
+  pub holds : P text
+  pub enough : length text ≤ room
+  pub answer : r ≡ writtenOf text old
+  pub buffer : new ≡ bufferOf text old
+
+-- all that a command prints
+abbrev pub Answered : Command → List ℕ → List ℕ → Written → List ℕ → Type 0
+Answered command bytes = Put (Prints bytes command)

@@ -1,0 +1,104 @@
+-- Laws of a list of lines that is made line by line: which lines its text is that of.
+-- Assumes nothing.
+use mathlib.Core.Path.{_≡_, refl, sym, ap, ap₂, subst, _∙_}
+use mathlib.Core.List.{List, [], _∷_, _++_, append-nil}
+use Prim.Native.Nat.{ℕ, zero, suc, _+_, _≤_, _<_, min}
+use native.Mathlib.Omega.{arith}
+use native.Mathlib.Numerals.{add-one}
+use lib.IntN.{ℤ, pos}
+use lib.ListN.{length, take, length-append}
+use Rattle.sizes.specs.Sizes.{mostOperations}
+use Rattle.laws.specs.Entry.{vec, at}
+use Rattle.text.specs.Sizes.{mostValues, greatestNumber}
+use Rattle.text.specs.Text.{lineText}
+use Rattle.text.specs.declared.Line as made
+use Rattle.text.specs.Line.{keyOf, textOf}
+use Rattle.text.specs.Lines.{Line, lineTextOf, linesText, countLine}
+use Rattle.text.specs.Joined.{one-number}
+use Rattle.text.specs.Filling.{lines-append}
+use Rattle.lines.specs.declared.Lines.{Lines}
+use Rattle.lines.specs.Lines.{mostLines, shown, noLines, withLine}
+use Rattle.lines.specs.Shown.{Whole, none-shown, none-whole, with-count, with-shown, with-whole}
+use Rattle.report.specs.Print.{each}
+use Rattle.report.specs.Places.{each-length}
+
+-- the list shows these lines
+pub record Shows (ls : Lines) (want : List Line) : Type 0 where
+  pub text : shown ls ≡ linesText want
+  pub count : ls .count ≡ length want
+  pub whole : Whole ls
+
+-- the list's text is one of which P holds
+pub record Lists (P : List ℕ → Type 0) (ls : Lines) : Type 0 where
+  pub holds : P (shown ls)
+  pub whole : Whole ls
+
+-- each number of an array is one that a line can have
+abbrev pub Printable : List ℕ → Type 0
+Printable xs = (i : ℕ) → vec xs i ≤ greatestNumber
+
+-- the numbers of an answer at an interval, as far as they are printed, are such numbers
+pub record Sized (n L : ℕ) (es : List ℕ) : Type 0 where
+  pub few : n ≤ greatestNumber
+  pub interval : n ≡ 5 → L ≤ greatestNumber
+  pub edges : n ≡ 5 → Printable es
+
+-- ---- lists of lines
+
+pub lists : {P : List ℕ → Type 0} {ls : Lines} {want : List Line} → Shows ls want → P (linesText want) → Lists P ls
+lists {P} s p = record { holds = subst P (sym (s .text)) p; whole = s .whole }
+
+pub nothing : Shows noLines []
+unfolding noLines linesText
+nothing = record { text = none-shown; count = refl; whole = none-whole }
+
+lines-one : (x : Line) → linesText (x ∷ []) ≡ lineTextOf x
+unfolding linesText
+lines-one x = append-nil (lineTextOf x)
+
+-- one line more
+pub more : {ls : Lines} {want : List Line} → Shows ls want → length want < mostLines → (l : made.Line) (x : Line) → length (l .values) ≡ mostValues → textOf l ≡ lineTextOf x
+    → Shows (withLine ls l) (want ++ (x ∷ []))
+more {ls} {want} s h l x w e =
+    let c = s .count in
+    let n = length-append want (x ∷ []) in
+    let q = with-count ls l (omega arith) in
+    record {
+      text = with-shown ls l (omega arith) (s .whole .lines) ∙ ap (λ (t : List ℕ). t ++ textOf l) (s .text)
+          ∙ ap (λ (t : List ℕ). linesText want ++ t) (e ∙ sym (lines-one x)) ∙ sym (lines-append want (x ∷ []));
+      count = omega arith;
+      whole = with-whole (s .whole) l w;
+    }
+
+-- the same of a list that is made so
+pub added : {ls r : Lines} {want : List Line} → Shows ls want → length want < mostLines → (l : made.Line) (x : Line) → length (l .values) ≡ mostValues → textOf l ≡ lineTextOf x
+    → r ≡ withLine ls l → Shows r (want ++ (x ∷ []))
+added {want = want} s h l x w e q = subst (λ (y : Lines). Shows y (want ++ (x ∷ []))) (sym q) (more s h l x w e)
+
+-- a line with one number that a line can have
+pub one : (key n : ℕ) (l : made.Line) → n ≤ greatestNumber → textOf l ≡ lineText (keyOf key) (pos (min n greatestNumber) ∷ []) → textOf l ≡ lineTextOf (countLine (keyOf key) n)
+one key n l h e = one-number (keyOf key) n h e
+
+-- ---- one line for each operation
+
+each-next : {A : Type 0} (n : ℕ) (f : ℕ → A) → each (suc n) f ≡ each n f ++ (f n ∷ [])
+unfolding each
+each-next zero f = refl
+each-next {A} (suc n) f = ap (λ (l : List A). f 0 ∷ l) (each-next n (λ i. f (suc i)))
+
+pub each-more : {A : Type 0} (n : ℕ) (f : ℕ → A) → each (n + 1) f ≡ each n f ++ (f n ∷ [])
+each-more n f = rw add-one (each-next n f)
+
+-- one more of them, after two lines
+pub each-added : {a b : Line} (f : ℕ → Line) {ls r : Lines} {i : ℕ} → Shows ls (a ∷ b ∷ each i f) → i < mostOperations → (l : made.Line) → length (l .values) ≡ mostValues
+    → textOf l ≡ lineTextOf (f i) → r ≡ withLine ls l → Shows r (a ∷ b ∷ each (i + 1) f)
+each-added {a} {b} f {r = r} {i} s h l w e q =
+    let n = each-length i f in
+    subst (λ (x : List Line). Shows r (a ∷ b ∷ x)) (sym (each-more i f)) (added s (omega arith) l (f i) w e q)
+
+-- the first numbers of an array, one by one
+pub each-take : (n : ℕ) (vs : List ℤ) (f : ℕ → ℤ) → n ≤ length vs → ((k : ℕ) → k < n → at vs k ≡ f k) → take n vs ≡ each n f
+unfolding each
+each-take zero vs f h e = refl
+each-take (suc n) [] f h e = absurd (omega arith)
+each-take (suc n) (v ∷ vs) f h e = ap₂ (λ (z : ℤ) (l : List ℤ). z ∷ l) (e 0 (omega arith)) (each-take n vs (λ k. f (suc k)) (omega arith) (λ k l. e (suc k) (omega arith)))

@@ -1,0 +1,77 @@
+// What each command prints for the bytes of a sheet: the lines of a service's answer, at the front of a lent buffer.
+// `words` says what is asked for; the program `ask` prints these bytes.
+ghost use Prim.Native.Nat.{_≤_};
+ghost use Rattle.text.specs.Sizes.{greatestNumber};
+ghost use Rattle.sheet.specs.Sheet.{InRange};
+ghost use Rattle.round_trip.specs.Accepted.{Arrays};
+ghost use Rattle.commands.specs.Listing.{refusalLines};
+ghost use Rattle.commands.specs.Prints.{Put, Serves, Answered};
+ghost use Rattle.commands.specs.Shows.{Shows};
+use lines::Lines;
+use sheet::Sheet;
+use text::Written;
+use words::Command;
+
+mod parts; // parts.rt: lines that several answers share
+mod rows; // rows.rt: the rows of the separation table
+mod services; // services.rt: the lines of each service's answer
+
+// Room for whatever a command prints.
+pub const ROOM: usize = 8192;
+
+// The lines that leastplan prints for the interval; the answer alone where the interval is refused.
+fn plan(sheet: Sheet, interval: usize, out: &mut [u8]) -> Written
+    requires { ⌜ InRange sheet ⌝ }
+    ensures { λ r. ⌜ Put (Serves sheet (Command.Plan interval)) (now (out .entry)) r (now (out .exit)) ⌝ }
+{
+    let refusal = sheet::asked(sheet, interval);
+    if refusal != 0 {
+        return lines::put(out, parts::alone(refusal));
+    }
+    report::interval_text(sheet, interval, out)
+}
+
+// The command on a sheet that was read.
+fn serve(command: Command, sheet: Sheet, out: &mut [u8]) -> Written
+    requires { ⌜ InRange sheet × Arrays sheet ⌝ }
+    ensures { λ r. ⌜ Put (Serves sheet command) (now (out .entry)) r (now (out .exit)) ⌝ }
+{
+    match command {
+        Command::Bounds => lines::put(out, services::bounds(sheet)),
+        Command::Starts(interval) => lines::put(out, services::starts(sheet, interval)),
+        Command::Separations(interval) => lines::put(out, services::separations(sheet, interval)),
+        Command::Plan(interval) => plan(sheet, interval, out),
+        Command::Order(interval, pair) => lines::put(out, services::order(sheet, interval, pair)),
+        Command::Check => lines::put(out, parts::alone(0)),
+        Command::Write => writer::write(sheet, out),
+    }
+}
+
+// The lines of a refused sheet: its answer alone; the command `check` adds the line at fault.
+fn refusal_lines(command: Command, refusal: usize, line: usize) -> Lines
+    requires { ⌜ (refusal ≤ greatestNumber) × (line ≤ greatestNumber) ⌝ }
+    ensures { λ r. ⌜ Shows r (refusalLines command refusal line) ⌝ }
+{
+    let alone = parts::alone(refusal);
+    match command {
+        Command::Check => lines::with(alone, text::count_line(text::LINE, line)),
+        _ => alone,
+    }
+}
+
+// All that the command prints for the bytes of a sheet, at the front of `out`, and its count of bytes; 9 where it does
+// not fit, and then `out` stays as it was. `ROOM` bytes are always enough.
+pub fn answer(command: Command, bytes: &[u8], out: &mut [u8]) -> Written
+    ensures { λ r. ⌜ Answered command (now (bytes .entry)) (now (out .entry)) r (now (out .exit)) ⌝ }
+{
+    let read = reader::read(bytes);
+    let refusal = read.answer;
+    if refusal != 0 {
+        return lines::put(
+            out,
+            refusal_lines(command, refusal, reader::line_at_fault(bytes)),
+        );
+    }
+    let sheet = read.sheet;
+    serve(command, sheet, out)
+}

@@ -1,0 +1,93 @@
+// The lines of each service's answer about a sheet that was read.
+ghost use mathlib.Core.List.{[], _∷_};
+ghost use Prim.Native.Nat.{_≤_};
+ghost use Rattle.sizes.specs.Sizes.{mostOperations};
+ghost use Rattle.laws.specs.Entry.{vec};
+ghost use Rattle.text.specs.Sizes.{greatestNumber};
+ghost use Rattle.sheet.specs.Sheet.{InRange};
+ghost use Rattle.report.specs.Print.{answerLine, intervalLine, each};
+ghost use Rattle.commands.specs.Listing.{startLine};
+ghost use Rattle.commands.specs.Shows.{Shows, Lists, Printable};
+ghost use Rattle.commands.specs.Prints.{Serves};
+use crate::parts;
+use crate::rows;
+use lines::Lines;
+use sheet::Sheet;
+use sizes::MOST_OPERATIONS;
+use words::Command;
+
+// The recurrence bound, then the resource bound.
+pub fn bounds(sheet: Sheet) -> Lines
+    requires { ⌜ InRange sheet ⌝ }
+    ensures { λ r. ⌜ Lists (Serves sheet Command.Bounds) r ⌝ }
+{
+    let recurrence = timing::recurrence_bound(sheet);
+    let first = parts::bound(
+        lines::none(),
+        text::RECURRENCE,
+        recurrence.answer,
+        recurrence.value,
+    );
+    let resource = plan::resource_bound(sheet);
+    parts::bound(first, text::RESOURCE, resource.answer, resource.value)
+}
+
+// The answer 0, the interval, and a start for each operation.
+fn start_lines(ops: usize, interval: usize, starts: [usize; MOST_OPERATIONS]) -> Lines
+    requires { ⌜ (ops ≤ mostOperations) × (interval ≤ greatestNumber) × Printable starts ⌝ }
+    ensures { λ r. ⌜ Shows r (answerLine 0 ∷ intervalLine interval ∷ each ops (λ i. startLine (vec starts i))) ⌝ }
+{
+    let mut ls = parts::headed(0, interval);
+    for i in 0..ops {
+        ls = lines::with(ls, text::count_line(text::START, starts[i]));
+    }
+    ls
+}
+
+// The earliest starts, or why there are none.
+pub fn starts(sheet: Sheet, interval: usize) -> Lines
+    requires { ⌜ InRange sheet ⌝ }
+    ensures { λ r. ⌜ Lists (Serves sheet (Command.Starts interval)) r ⌝ }
+{
+    let found = timing::earliest_starts(sheet, interval);
+    if found.answer == 0 {
+        let starts = found.starts;
+        return start_lines(sheet.op_count, interval, starts);
+    }
+    let edges = found.loop_edges;
+    parts::refused(found.answer, interval, found.loop_length, edges)
+}
+
+// The separations, or why there are none.
+pub fn separations(sheet: Sheet, interval: usize) -> Lines
+    requires { ⌜ InRange sheet ⌝ }
+    ensures { λ r. ⌜ Lists (Serves sheet (Command.Separations interval)) r ⌝ }
+{
+    let walk = timing::bad_walk(sheet, interval);
+    if walk.answer == 0 {
+        return rows::rows(
+            sheet.op_count,
+            interval,
+            timing::separations(sheet, interval),
+        );
+    }
+    let edges = walk.loop_edges;
+    parts::refused(walk.answer, interval, walk.loop_length, edges)
+}
+
+// The slot order of a pair, or why there is none.
+pub fn order(sheet: Sheet, interval: usize, pair: usize) -> Lines
+    requires { ⌜ InRange sheet ⌝ }
+    ensures { λ r. ⌜ Lists (Serves sheet (Command.Order interval pair)) r ⌝ }
+{
+    let found = slot_order::slot_order(sheet, interval, pair);
+    let answered = parts::alone(found.answer);
+    if found.answer == 0 {
+        return lines::with(answered, text::count_line(text::ORDER, found.order));
+    }
+    if found.answer == parts::INFEASIBLE {
+        let edges = found.loop_edges;
+        return parts::looped(answered, found.loop_length, edges);
+    }
+    answered
+}
