@@ -38,9 +38,9 @@ def program_words(name):
     return [emulator] + words if os.path.exists(emulator) else words
 
 
-def run(name, data):
-    """What the program writes for this standard input; a crash raises."""
-    done = subprocess.run(program_words(name), input=data, stdout=subprocess.PIPE, timeout=600)
+def run(name, data, *words):
+    """What the program writes for this standard input and these words; a crash raises."""
+    done = subprocess.run([*program_words(name), *words], input=data, stdout=subprocess.PIPE, timeout=600)
     if done.returncode:
         raise RuntimeError("%s ended with status %d" % (name, done.returncode))
     return done.stdout

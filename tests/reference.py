@@ -5,11 +5,13 @@ Independent of the Rattle crates: nothing here is taken from their code, their a
 outputs. Sheets are read with a regular expression for each kind of line; plans, instances and closed
 walks are found by listing candidates in the order of the paper and taking the first that keeps the
 rules. The only cuts are: a prefix of a candidate that already breaks a rule is not continued, more
-operations of a type in one slot than it has instances count as such a break, and a bad closed walk
-is looked for up to N edges (a longer one passes an operation twice and so splits into two closed
-walks, one of them bad). So it is slow, and for small sheets only.
+operations of a type in one slot than it has instances count as such a break, walks are looked at up
+to N edges (a longer one passes an operation twice, and what lies between is a closed walk: a bad one
+is itself shorter, and any other can be cut out and the sum is no smaller), and a walk that cannot be
+made a bad closed one is not continued. Sums over walks come from a table by length and ends, so all
+but plans can be had of large sheets too; plans are slow, and for small sheets only.
 
-As a program:  reference.py < SHEET   prints what leastplan prints.
+As a program:  reference.py [COMMAND [name=number ..]] < SHEET   prints what leastplan prints.
 """
 
 import re
@@ -67,11 +69,11 @@ class Lines:
         found = re.fullmatch(key + b"=" + b",".join(numbers), self.data[self.at : end], re.DOTALL)
         if not found:
             raise Refused(2)
-        self.at = end + 1
         values = [int(v) for v in found.groups()]
         for value, (low, high) in zip(values, limits):
             if not low <= value <= high:
                 raise Refused(3)
+        self.at = end + 1
         return values
 
     def one(self, key, field):
@@ -91,28 +93,45 @@ def read_lines(lines):
     return Sheet(horizon, cap, types, ops, edges)
 
 
-def read_sheet(data):
-    """(0, sheet), or the refusal 1, 2 or 3 and None."""
+def read_to(data):
+    """(answer, sheet or None, place): the place where reading stopped, at the line at fault."""
     if len(data) > SHEET_BYTES:
-        return 1, None
+        return 1, None, SHEET_BYTES
     lines = Lines(data)
     try:
         sheet = read_lines(lines)
     except Refused as refusal:
-        return refusal.answer, None
+        return refusal.answer, None, lines.at
     if lines.at != len(data):
-        return 2, None
-    return 0, sheet
+        return 2, None, lines.at
+    return 0, sheet, lines.at
 
 
-def sheet_text(sheet):
+def read_sheet(data):
+    """(0, sheet), or the refusal 1, 2 or 3 and None."""
+    return read_to(data)[:2]
+
+
+def line_at_fault(data):
+    """The number, from 1, of the line at which a refused sheet is refused; with 1 that of byte 4,097."""
+    return data[: read_to(data)[2]].count(b"\n") + 1
+
+
+def lines_of(rows):
+    return "".join(row + "\n" for row in rows).encode()
+
+
+def sheet_rows(sheet):
     rows = ["horizon=%d" % sheet.horizon, "cap=%d" % sheet.cap, "types=%d" % len(sheet.types)]
     rows += ["type=%d,%d" % t for t in sheet.types]
     rows += ["ops=%d" % len(sheet.ops)]
     rows += ["op=%d" % r for r in sheet.ops]
     rows += ["edges=%d" % len(sheet.edges)]
-    rows += ["edge=%d,%d,%d,%d" % e for e in sheet.edges]
-    return "".join(row + "\n" for row in rows).encode()
+    return rows + ["edge=%d,%d,%d,%d" % e for e in sheet.edges]
+
+
+def sheet_text(sheet):
+    return lines_of(sheet_rows(sheet))
 
 
 # ---- rules of a plan
@@ -230,48 +249,74 @@ def first_plan(sheet, interval):
     return None if starts is None else (list(starts), found[0])
 
 
-# ---- bad closed walks
+# ---- walks and bad closed walks
+
+NO_WALK = float("-inf")  # below every sum
 
 
-def chains(sheet, length):
-    """The chains of that many edges, as lists of edge numbers, in their order."""
-    edges = sheet.edges
-
-    def extend(chain):
-        if len(chain) == length:
-            yield list(chain)
-            return
-        for k, edge in enumerate(edges):
-            if not chain or edges[chain[-1]][1] == edge[0]:
-                chain.append(k)
-                yield from extend(chain)
-                chain.pop()
-
-    yield from extend([])
+def walk_sums(sheet, interval):
+    """For 0 to N edges a table: the greatest sum over the walks of so many edges from row to column."""
+    n = len(sheet.ops)
+    tables = [[[0 if i == j else NO_WALK for j in range(n)] for i in range(n)]]
+    for _ in range(n):
+        longer = [[NO_WALK] * n for _ in range(n)]
+        for row, shorter in zip(longer, tables[-1]):
+            for edge in sheet.edges:
+                row[edge[1]] = max(row[edge[1]], shorter[edge[0]] + total(sheet, interval, edge))
+        tables.append(longer)
+    return tables
 
 
 def first_bad_walk(sheet, interval):
     """The bad closed walk with the fewest edges, the first of those; None without one."""
-    edges = sheet.edges
-    sums = [total(sheet, interval, e) for e in edges]
-    for length in range(1, len(sheet.ops) + 1):
-        for chain in chains(sheet, length):
-            closed = edges[chain[0]][0] == edges[chain[-1]][1]
-            if closed and sum(sums[k] for k in chain) > 0:
-                return chain
-    return None
+    edges, sums = sheet.edges, walk_sums(sheet, interval)
+
+    def first_of(length):
+        def fits(chain):
+            """It is a walk, and the rest of the edges can close it with a sum above 0."""
+            first, last = edges[chain[0]], edges[chain[-1]]
+            if len(chain) > 1 and edges[chain[-2]][1] != last[0]:
+                return False
+            rest = sums[length - len(chain)][last[1]][first[0]]
+            return sum(total(sheet, interval, edges[k]) for k in chain) + rest > 0
+
+        return first_list([range(len(edges))] * length, fits)
+
+    walks = (first_of(length) for length in range(1, len(sheet.ops) + 1))
+    return next((walk for walk in walks if walk is not None), None)
 
 
 # ---- services
 
 
+def feasible(sheet, interval):
+    """Questions 4 and 5: (answer, loop)."""
+    if not 1 <= interval <= sheet.cap:
+        return 4, []
+    loop = first_bad_walk(sheet, interval)
+    return (0, []) if loop is None else (5, loop)
+
+
+def separations(sheet, interval):
+    """(answer, table, loop): the greatest sum over walks of at least one edge from row to column, or NO_WALK."""
+    answer, loop = feasible(sheet, interval)
+    if answer:
+        return answer, [], loop
+    tables, n = walk_sums(sheet, interval)[1:], range(len(sheet.ops))
+    return 0, [[max(table[i][j] for table in tables) for j in n] for i in n], []
+
+
+def earliest_starts(sheet, interval):
+    """(answer, starts, loop): a start is 0, or what the walks that end there ask if that is more."""
+    answer, table, loop = separations(sheet, interval)
+    return answer, [max(0, *column) for column in zip(*table)], loop
+
+
 def plan_at(sheet, interval):
     """(answer, starts, instances, loop); what an answer does not give is empty."""
-    if not 1 <= interval <= sheet.cap:
-        return 4, [], [], []
-    loop = first_bad_walk(sheet, interval)
-    if loop is not None:
-        return 5, [], [], loop
+    answer, loop = feasible(sheet, interval)
+    if answer:
+        return answer, [], [], loop
     plan = first_plan(sheet, interval)
     if plan is None:
         return 6, [], [], []
@@ -300,14 +345,20 @@ def resource_bound(sheet):
     return bound
 
 
-def interval_lines(interval, plan):
+def loop_rows(loop):
+    """The line of refusal 5; none without a loop."""
+    return ["loop=" + ",".join(str(k) for k in loop)] if loop else []
+
+
+def interval_rows(interval, plan):
     """The lines that leastplan prints for one interval."""
     answer, starts, units, loop = plan
-    rows = ["answer=%d" % answer, "interval=%d" % interval]
-    if answer == 5:
-        rows.append("loop=" + ",".join(str(k) for k in loop))
-    rows += ["at=%d,%d" % at for at in zip(starts, units)]
-    return "".join(row + "\n" for row in rows).encode()
+    rows = ["answer=%d" % answer, "interval=%d" % interval] + loop_rows(loop)
+    return rows + ["at=%d,%d" % at for at in zip(starts, units)]
+
+
+def interval_lines(interval, plan):
+    return lines_of(interval_rows(interval, plan))
 
 
 def plan_text(interval, plan):
@@ -415,8 +466,78 @@ def place(sheet, interval, table, op, start):
     return 13, 0, table
 
 
+# ---- commands: what `leastplan COMMAND` prints for an accepted sheet; plan_of(sheet, interval) gives the plan
+
+
+def bounds_rows(sheet, _):
+    answer, interval = recurrence_bound(sheet)
+    rows = ["answer=%d" % answer] + ([] if answer else ["recurrence=%d" % interval])
+    return rows + ["answer=0", "resource=%d" % resource_bound(sheet)]
+
+
+def dependence_rows(interval, answer, loop, rows):
+    """An answer of the dependence part: with 4 it stands alone."""
+    return ["answer=%d" % answer] + ([] if answer == 4 else ["interval=%d" % interval]) + loop_rows(loop) + rows
+
+
+def starts_rows(sheet, _, interval):
+    answer, starts, loop = earliest_starts(sheet, interval)
+    return dependence_rows(interval, answer, loop, ["start=%d" % t for t in starts])
+
+
+def separations_rows(sheet, _, interval):
+    answer, table, loop = separations(sheet, interval)
+    rows = ["row=" + ",".join("-" if cell == NO_WALK else str(cell) for cell in row) for row in table]
+    return dependence_rows(interval, answer, loop, rows)
+
+
+def plan_rows(sheet, plan_of, interval):
+    plan = plan_of(sheet, interval)
+    return ["answer=4"] if plan[0] == 4 else interval_rows(interval, plan)
+
+
+def order_rows(sheet, plan_of, interval, pair):
+    plan = plan_of(sheet, interval)
+    answer, value = slot_order_in(sheet, interval, plan, pair)
+    return ["answer=%d" % answer] + loop_rows(plan[3]) + ([] if answer else ["order=%d" % value])
+
+
+# The arguments that a command takes, each once, in any order; and its lines.
+COMMANDS = {
+    "bounds": (set(), bounds_rows),
+    "starts": ({"interval"}, starts_rows),
+    "separations": ({"interval"}, separations_rows),
+    "plan": ({"interval"}, plan_rows),
+    "order": ({"interval", "pair"}, order_rows),
+    "check": (set(), lambda sheet, _: ["answer=0"]),
+    "write": (set(), lambda sheet, _: sheet_rows(sheet)),
+}
+
+
+def arguments(words):
+    """The numbers by name; None where the first word is no command or the others are not its arguments."""
+    given = [re.fullmatch("([a-z]+)=" + PLAIN.decode(), word) for word in words[1:]]
+    if words[0] not in COMMANDS or not all(given):
+        return None
+    numbers = {found[1]: int(found[2]) for found in given}
+    return numbers if len(numbers) == len(given) and set(numbers) == COMMANDS[words[0]][0] else None
+
+
+def ask(words, data, plan_of=plan_at):
+    """The whole output of a command for the bytes of its standard input; nothing where the words are wrong."""
+    numbers = arguments(words)
+    if numbers is None:
+        return b""
+    answer, sheet = read_sheet(data)
+    if answer:
+        line = ["line=%d" % line_at_fault(data)] if words[0] == "check" else []
+        return lines_of(["answer=%d" % answer] + line)
+    return lines_of(COMMANDS[words[0]][1](sheet, plan_of, **numbers))
+
+
 def main():
-    sys.stdout.buffer.write(leastplan(sys.stdin.buffer.read()))
+    data = sys.stdin.buffer.read()
+    sys.stdout.buffer.write(ask(sys.argv[1:], data) if sys.argv[1:] else leastplan(data))
 
 
 if __name__ == "__main__":

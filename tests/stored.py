@@ -1,9 +1,10 @@
 #!/usr/bin/env python3
-"""Makes the stored inputs and outputs of leastplan, test_sheet, test_plan, test_placing and test_order.
+"""Makes the stored inputs and outputs of leastplan, ask, test_sheet, test_plan, test_placing and test_order, and the
+page of commands among the examples.
 
-They come from the reference. That of leastplan is case A of document 01, that of test_order has a case a line. The
-others are runs of pieces, each a line bytes=N and N bytes: a sheet, and for test_placing a sheet and a script by turns;
-the outputs have a line -- before the answer to each sheet. As a program:  stored.py   writes the files anew.
+They come from the reference. Those of leastplan and ask are case A of document 01, that of test_order has a case a
+line. The others are runs of pieces, each a line bytes=N and N bytes: a sheet, and for test_placing a sheet and a script
+by turns; the outputs have a line -- before the answer to each sheet. As a program:  stored.py   writes the files anew.
 """
 
 import os
@@ -257,6 +258,41 @@ def plan_pieces():
     return list(dict.fromkeys(pieces))
 
 
+# ---- commands
+
+ASKED = ["separations", "interval=3"]  # of case A, by the program ask
+
+PAGE_HEAD = """Each command with its output, typed in the root folder of the repository. What follows a line that begins with $ is the
+output, byte for byte, up to an empty line. tests/stored.py makes this page by tests/reference.py, not by the program;
+tests/check_commands types all of it again.
+"""
+
+# The words of each command on the page, and the sheet among the examples.
+PAGE = [
+    ("bounds", "phase_locked_loop"),
+    ("bounds", "no_register"),
+    ("starts interval=3", "sample_deadline"),
+    ("starts interval=1", "both_bounds_low"),
+    ("separations interval=5", "clarke_park"),
+    ("plan interval=4", "three_phases"),
+    ("plan interval=2", "both_bounds_low"),
+    ("order interval=3 pair=0", "sample_deadline"),
+    ("check", "sample_deadline"),
+    ("check", "leading_zero"),
+    ("write", "both_bounds_low"),
+]
+
+
+def command_page():
+    blocks = [PAGE_HEAD]
+    for words, name in PAGE:
+        path = "examples/%s.sheet" % name
+        with open(os.path.join(ROOT, path), "rb") as sheet:
+            output = ref.ask(words.split(), sheet.read()).decode()
+        blocks.append("$ ./leastplan %s %s\n%s" % (words, path, output))
+    return "\n".join(blocks).encode()
+
+
 # ---- files
 
 
@@ -267,6 +303,10 @@ def stored_files():
     pairs, verdicts = orders.stored()
     yield "crates/leastplan/stdin", case_a
     yield "crates/leastplan/stdout", ref.leastplan(case_a)
+    yield "crates/ask/args", ref.lines_of(ASKED)
+    yield "crates/ask/stdin", case_a
+    yield "crates/ask/stdout", ref.ask(ASKED, case_a)
+    yield "examples/commands.txt", command_page()
     yield "crates/test_sheet/stdin", framed(reads)
     yield "crates/test_sheet/stdout", marked(read_answer(p) for p in reads)
     yield "crates/test_placing/stdin", framed(pieces)
