@@ -27,13 +27,13 @@ abbrev pub mostLag : ℤ
 mostLag = pos mostStarts
 
 -- a lag between those
-pub record Small (z : ℤ) : Type 0 where
+pub record SmallLag (z : ℤ) : Type 0 where
   pub low : leastLag ≤ℤ z
   pub high : z ≤ℤ mostLag
 
 -- a small lag that asks no more than z
 pub record Clipped (z r : ℤ) : Type 0 where
-  pub small : Small r
+  pub small : SmallLag r
   pub under : leastLag ≤ℤ z → r ≤ℤ z
 
 -- the ends of the first k edges are operations

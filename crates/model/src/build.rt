@@ -3,7 +3,7 @@ ghost use mathlib.Core.Path.{_≡_};
 ghost use Prim.Native.Nat.{_≤_};
 ghost use Rattle.sizes.specs.Sizes.{mostOperations, mostEdges, mostTypes, mostIntervals};
 ghost use Rattle.sheet.specs.Sheet.{InRange, Interval, graphOf};
-ghost use Rattle.model.specs.Task.{pairs, Small, Clipped, EndsFor, TypesFor, LimitsFor, LagsFor, TaskFor, EndsWithin};
+ghost use Rattle.model.specs.Task.{pairs, SmallLag, Clipped, EndsFor, TypesFor, LimitsFor, LagsFor, TaskFor, EndsWithin};
 use dependence::Graph;
 use sheet::Sheet;
 use sizes::MOST_EDGES;
@@ -47,7 +47,7 @@ fn clipped(lag: i32) -> i32
 
 // Whether two operations hold each other within less than an interval. It only guides the search and promises nothing.
 fn close(i: usize, j: usize, there: i32, back: i32, interval: usize) -> bool
-    requires { ⌜ Small there × Small back × (interval ≤ mostIntervals) ⌝ }
+    requires { ⌜ SmallLag there × SmallLag back × (interval ≤ mostIntervals) ⌝ }
 {
     if i == j {
         return false;

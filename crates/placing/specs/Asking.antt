@@ -21,7 +21,7 @@ new-asked (at-yes r (at-no x e)) = at-yes r (at-no x (ap newTable e))
 new-asked (at-yes r (at-yes i e)) = at-yes r (at-yes i (ap newTable e))
 
 -- the questions before a placing got a yes
-pub record Ready (s : Sheet) (L : ℕ) (table : Table) (op start : ℕ) : Type 0 where
+pub record Placeable (s : Sheet) (L : ℕ) (table : Table) (op start : ℕ) : Type 0 where
   pub accepted : Accepted s L
   pub consistent : Consistent s L table
   pub target : Target s op start
@@ -31,7 +31,7 @@ kept : {table : Table} {r : PlaceAnswer} {n : ℕ} → r ≡ refused table n →
 kept e = ap (λ (x : PlaceAnswer). x .table) e
 
 module _ {s : Sheet} {L : ℕ} {table : Table} {op start : ℕ} where
-  pub ready : {n : ℕ} → AskedToPlace s L table op start n → n ≡ 0 → Ready s L table op start
+  pub ready : {n : ℕ} → AskedToPlace s L table op start n → n ≡ 0 → Placeable s L table op start
   ready (at-no x e) z = absurd (sheet-out s x (sym e ∙ z))
   ready (at-yes _ (at-no _ e)) z = absurd (omega (arith, e, z))
   ready (at-yes _ (at-yes _ (at-no _ e))) z = absurd (omega (arith, e, z))
@@ -51,15 +51,15 @@ module _ {s : Sheet} {L : ℕ} {table : Table} {op start : ℕ} where
   refuses-placing refused (at-yes r (at-yes i (at-yes c (at-yes t (at-yes f e))))) z q = absurd (z e)
 
   pub goes-on-placing : {A : Type 0} (refused : ℕ → A) {Then : A → Type 0} {a : A}
-      → Ready s L table op start → Then a → ToPlace refused s L table op start Then a
+      → Placeable s L table op start → Then a → ToPlace refused s L table op start Then a
   goes-on-placing refused y t = at-yes (y .accepted .sheet) (at-yes (y .accepted .interval) (at-yes (y .consistent) (at-yes (y .target) (at-yes (y .unplaced) t))))
 
   -- the operation has an entry in the table
-  pub has-entry : Ready s L table op start → op < mostOperations
+  pub has-entry : Placeable s L table op start → op < mostOperations
   has-entry y = omega (arith, y .target .operation, ops-most (y .accepted .sheet))
 
   -- the table is the one that came, or the operation was placed
-  pub kept-or-placed : {r : PlaceAnswer} → PlaceAt s L table op start r → (r .table ≡ table) ⊎ (Ready s L table op start × GivenLowest s L table op start r)
+  pub kept-or-placed : {r : PlaceAnswer} → PlaceAt s L table op start r → (r .table ≡ table) ⊎ (Placeable s L table op start × GivenLowest s L table op start r)
   kept-or-placed (at-no _ e) = inl (kept e)
   kept-or-placed (at-yes _ (at-no _ e)) = inl (kept e)
   kept-or-placed (at-yes _ (at-yes _ (at-no _ e))) = inl (kept e)

@@ -17,7 +17,7 @@ use Rattle.text.specs.Bounds.{Within, natural-most, line-most, cons-length, nil
 use Rattle.sheet.specs.declared.Sheet.{Sheet}
 use Rattle.plan.specs.declared.PlanAnswer.{PlanAnswer}
 use Rattle.report.specs.Print.{answerLine, intervalLine, loopLine, atLine, each, detail, intervalLines}
-use Rattle.report.specs.Small.{SmallList, Small}
+use Rattle.report.specs.Small.{SmallList, SmallAnswer}
 use Rattle.report.specs.Places.{detail-0, detail-5, detail-else}
 
 -- a number of three digits and the byte after it
@@ -78,7 +78,7 @@ take-small (suc n) (k ∷ ks) h (suc i) = take-small n ks (λ j. h (suc j)) i
 
 -- ---- the lines of an interval
 
-module _ (s : Sheet) (L : ℕ) (a : PlanAnswer) (small : Small s L a) where
+module _ (s : Sheet) (L : ℕ) (a : PlanAnswer) (small : SmallAnswer s L a) where
   head-most : length (linesText (intervalLines s L a)) ≤ headMost + length (linesText (detail s a))
   unfolding intervalLines
   head-most =

@@ -27,7 +27,7 @@ SmallList xs = (i : ℕ) → vec xs i ≤ threeDigits
 
 -- the numbers that are printed of a plan's answer have at most three digits, and each operation or edge of a loop has
 -- its place
-pub record Small (s : Sheet) (L : ℕ) (a : PlanAnswer) : Type 0 where
+pub record SmallAnswer (s : Sheet) (L : ℕ) (a : PlanAnswer) : Type 0 where
   pub answer : a .answer ≤ threeDigits
   pub interval : L ≤ threeDigits
   pub ops : s .«op_count» ≤ mostOperations
@@ -76,7 +76,7 @@ module _ {s : Sheet} {L : ℕ} (ok : InRange s) (v : Interval s L) where
     unit-small z i (no l) = let e = z .rest i (omega arith) in omega arith
 
   -- 5 with edges of the sheet
-  loop-small : (n : ℕ) (es : List ℕ) → SmallList es → length es ≡ mostOperations → Small s L (looped n es)
+  loop-small : (n : ℕ) (es : List ℕ) → SmallList es → length es ≡ mostOperations → SmallAnswer s L (looped n es)
   loop-small n es e l = record {
     answer = omega arith;
     interval = interval-small ok v;
@@ -88,7 +88,7 @@ module _ {s : Sheet} {L : ℕ} (ok : InRange s) (v : Interval s L) where
   }
 
   -- 0 with starts and instances of a plan
-  given-small : (ts us : List ℕ) → SmallList ts → SmallList us → Small s L (planned ts us)
+  given-small : (ts us : List ℕ) → SmallList ts → SmallList us → SmallAnswer s L (planned ts us)
   given-small ts us t u = record {
     answer = omega arith;
     interval = interval-small ok v;
@@ -99,13 +99,13 @@ module _ {s : Sheet} {L : ℕ} (ok : InRange s) (v : Interval s L) where
     room = refl;
   }
 
-  pub small : {a : PlanAnswer} → PlanAt s L a → Small s L a
+  pub small : {a : PlanAnswer} → PlanAt s L a → SmallAnswer s L a
   small (at-no n _) = absurd (n ok)
   small (at-yes _ (at-no n _)) = absurd (n v)
   small (at-yes _ (at-yes _ (at-no _ p))) =
-      subst (Small s L) (sym (p .pinned)) (loop-small (length (p .walk)) (p .edges) (loop-edges-small ok p) (p .padded .whole))
+      subst (SmallAnswer s L) (sym (p .pinned)) (loop-small (length (p .walk)) (p .edges) (loop-edges-small ok p) (p .padded .whole))
   small (at-yes _ (at-yes _ (at-yes _ (at-no _ e)))) =
-      subst (Small s L) (sym e) (record {
+      subst (SmallAnswer s L) (sym e) (record {
         answer = omega arith;
         interval = interval-small ok v;
         ops = ops-most ok;
@@ -117,10 +117,10 @@ module _ {s : Sheet} {L : ℕ} (ok : InRange s) (v : Interval s L) where
   small (at-yes _ (at-yes _ (at-yes _ (at-yes _ g)))) =
       let ts = g .starts in
       let us = g .instances in
-      subst (Small s L) (sym (g .pinned)) (given-small ts us
+      subst (SmallAnswer s L) (sym (g .pinned)) (given-small ts us
       (λ i. start-small ts us (g .first .plan) (g .startsRest) i (decLt i (s .«op_count»)))
       (λ i. unit-small ts us (g .first .plan) (g .instancesRest) i (decLt i (s .«op_count»))))
 
 -- a plan is only given of a sheet in range at an interval in range
-pub plan-small : {s : Sheet} {L : ℕ} {a : PlanAnswer} → PlanAt s L a → a .answer ≡ 0 → Small s L a
+pub plan-small : {s : Sheet} {L : ℕ} {a : PlanAnswer} → PlanAt s L a → a .answer ≡ 0 → SmallAnswer s L a
 plan-small p z = let y = accepted-given p z .0 in small (y .sheet) (y .interval) p

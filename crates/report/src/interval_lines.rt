@@ -10,7 +10,7 @@ ghost use Rattle.text.specs.Line.{textOf};
 ghost use Rattle.text.specs.Lines.{lineTextOf, linesText, noLine};
 ghost use Rattle.report.specs.Print.{loopLine, atLine, intervalLines};
 ghost use Rattle.report.specs.Places.{headLines};
-ghost use Rattle.report.specs.Small.{Small, SmallList};
+ghost use Rattle.report.specs.Small.{SmallAnswer, SmallList};
 use plan::PlanAnswer;
 use sheet::Sheet;
 use sizes::MOST_OPERATIONS;
@@ -35,7 +35,7 @@ fn loop_line(edges: [usize; MOST_OPERATIONS], count: usize) -> Line
 }
 
 fn line_at(s: Sheet, interval: usize, a: PlanAnswer, i: usize) -> Line
-    requires { ⌜ Small s interval a × (i < length (intervalLines s interval a)) ⌝ }
+    requires { ⌜ SmallAnswer s interval a × (i < length (intervalLines s interval a)) ⌝ }
     ensures { λ r. ⌜ textOf r ≡ lineTextOf (getD (intervalLines s interval a) i noLine) ⌝ }
 {
     if i == 0 {
@@ -53,7 +53,7 @@ fn line_at(s: Sheet, interval: usize, a: PlanAnswer, i: usize) -> Line
 }
 
 fn line_count(s: Sheet, interval: usize, a: PlanAnswer) -> usize
-    requires { ⌜ Small s interval a ⌝ }
+    requires { ⌜ SmallAnswer s interval a ⌝ }
     ensures { λ r. ⌜ (r ≡ length (intervalLines s interval a)) × (r ≤ headLines + mostOperations) ⌝ }
 {
     if a.answer == 0 {
@@ -67,7 +67,7 @@ fn line_count(s: Sheet, interval: usize, a: PlanAnswer) -> usize
 
 // How many bytes the lines have.
 pub fn text_length(s: Sheet, interval: usize, a: PlanAnswer) -> usize
-    requires { ⌜ Small s interval a ⌝ }
+    requires { ⌜ SmallAnswer s interval a ⌝ }
     ensures { λ r. ⌜ r ≡ length (linesText (intervalLines s interval a)) ⌝ }
 {
     let lines = line_count(s, interval, a);
@@ -80,7 +80,7 @@ pub fn text_length(s: Sheet, interval: usize, a: PlanAnswer) -> usize
 
 // The lines at the front of `out`, which takes them, and how many bytes they have.
 pub fn fill(out: &mut [u8], s: Sheet, interval: usize, a: PlanAnswer) -> usize
-    requires { ⌜ Small s interval a × (length (linesText (intervalLines s interval a)) ≤ length (now out)) ⌝ }
+    requires { ⌜ SmallAnswer s interval a × (length (linesText (intervalLines s interval a)) ≤ length (now out)) ⌝ }
     ensures { λ r. ⌜ r ≡ length (linesText (intervalLines s interval a)) ⌝ }
     ensures { λ r. ⌜ now (out .exit) ≡ over (linesText (intervalLines s interval a)) (now (out .entry)) ⌝ }
 {

@@ -10,7 +10,7 @@ ghost use Rattle.text.specs.Lines.{linesText};
 ghost use Rattle.sheet.specs.Sheet.{InRange};
 ghost use Rattle.report.specs.Print.{answerLine, Run, Printed};
 ghost use Rattle.report.specs.Bounds.{answerMost};
-ghost use Rattle.report.specs.Small.{Small};
+ghost use Rattle.report.specs.Small.{SmallAnswer};
 ghost use Rattle.report.specs.PlanText.{PlanText, planText};
 ghost use Rattle.report.specs.IntervalText.{IntervalText};
 ghost use Rattle.report.specs.Printing.{room, Put, Reported};
@@ -36,7 +36,7 @@ pub struct PlanWritten {
 // The lines of one interval at the front of `out` and their count of bytes; 9 where they do not fit, and then `out`
 // stays as it was.
 fn put_interval(out: &mut [u8], sheet: Sheet, interval: usize, a: PlanAnswer) -> Written
-    requires { ⌜ Small sheet interval a ⌝ }
+    requires { ⌜ SmallAnswer sheet interval a ⌝ }
     ensures { λ r. ⌜ (r ≡ writtenOf (planText sheet interval a) (now (out .entry))) × (now (out .exit) ≡ bufferOf (planText sheet interval a) (now (out .entry))) ⌝ }
 {
     if out.len() < interval_lines::text_length(sheet, interval, a) {

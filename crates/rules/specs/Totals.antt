@@ -8,7 +8,7 @@ use Rattle.dependence.specs.Graph.{InRange, Interval, total, total-ok, total-lo
 use Rattle.dependence.specs.Answer.{Totals, TotalsAnswer, totals-three, totals-four, totals-found}
 
 -- the range of a total
-pub record Small (z : ℤ) : Type 0 where
+pub record SmallTotal (z : ℤ) : Type 0 where
   pub low : negsuc 599 ≤ℤ z
   pub high : z ≤ℤ pos 600
 
@@ -18,5 +18,5 @@ module _ {g : Graph} {L : ℕ} (ok : InRange g) (iv : Interval L) where
   totals-are (totals-four _ _ _ n) = absurd (n iv)
   totals-are (totals-found _ _ _ t) = t
 
-  pub total-small : {k : ℕ} → k < g .«edge_count» → Small (total g L k)
+  pub total-small : {k : ℕ} → k < g .«edge_count» → SmallTotal (total g L k)
   total-small {k} h = let b = total-ok ok iv k h in record { low = total-low b; high = total-high b }

@@ -26,13 +26,13 @@ use Rattle.arrays.specs.Cut.{Cut}
 use Rattle.model.specs.Bridge.{none-found, first-found}
 
 -- what question 6 is put after
-pub record Ready (s : Sheet) (L : ℕ) : Type 0 where
+pub record FeasibleAt (s : Sheet) (L : ℕ) : Type 0 where
   pub accepted : Accepted s L
   pub feasible : Feasible s L
 
 -- ---- question 6
 
-module _ {s : Sheet} {L : ℕ} (y : Ready s L) where
+module _ {s : Sheet} {L : ℕ} (y : FeasibleAt s L) where
   -- no bad closed walk: the table holds lags
   pub lags-found : {table : List (List ℤ)} → TableAnswer (graphOf s) L (Lags (graphOf s) L) table → Lags (graphOf s) L table
   lags-found (table-refused _ n) = absurd (n (graph-in-range (y .accepted .sheet), interval-in-range (y .accepted .sheet) (y .accepted .interval)))

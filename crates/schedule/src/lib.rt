@@ -2,7 +2,7 @@
 ghost use mathlib.Core.Path.{_≡_};
 ghost use Rattle.sheet.specs.Sheet.{graphOf};
 ghost use Rattle.plan.specs.Answers.{PlanAt, LeastInterval, IfPlan, refused};
-ghost use Rattle.schedule.specs.Served.{Ready};
+ghost use Rattle.schedule.specs.Served.{FeasibleAt};
 use dependence::Graph;
 use plan::IntervalAnswer;
 use plan::PlanAnswer;
@@ -24,7 +24,7 @@ fn refusal(answer: usize) -> PlanAnswer
 
 // Question 6: the first plan, or that there is none. The graph is the sheet's.
 fn first_plan(sheet: Sheet, graph: Graph, interval: usize) -> PlanAnswer
-    requires { ⌜ Ready sheet interval × (graph ≡ graphOf sheet) ⌝ }
+    requires { ⌜ FeasibleAt sheet interval × (graph ≡ graphOf sheet) ⌝ }
     ensures { λ r. ⌜ IfPlan sheet interval r ⌝ }
 {
     let lags = dependence::lags(graph, interval);

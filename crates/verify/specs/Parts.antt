@@ -41,12 +41,12 @@ pub record Clash (s : Sheet) (L : ℕ) (t u : ℕ → ℕ) (i j : ℕ) : Type 0 
   pub overlap : Overlap s L i (t i) j (t j)
 
 -- operation i clashes with none before it
-abbrev pub Apart : Sheet → ℕ → (ℕ → ℕ) → (ℕ → ℕ) → ℕ → Type 0
-Apart s L t u i = (j : ℕ) → j < i → Clash s L t u i j → ⊥
+abbrev pub ApartBefore : Sheet → ℕ → (ℕ → ℕ) → (ℕ → ℕ) → ℕ → Type 0
+ApartBefore s L t u i = (j : ℕ) → j < i → Clash s L t u i j → ⊥
 
 -- no two operations clash
 abbrev pub AllApart : Sheet → ℕ → (ℕ → ℕ) → (ℕ → ℕ) → Type 0
-AllApart s L t u = (i : ℕ) → i < s .«op_count» → Apart s L t u i
+AllApart s L t u = (i : ℕ) → i < s .«op_count» → ApartBefore s L t u i
 
 -- ---- laws
 

@@ -7,14 +7,14 @@ ghost use Rattle.laws.specs.Entry.{vec};
 ghost use Rattle.laws.specs.Says.{Says};
 ghost use Rattle.dependence.specs.Graph.{InRange, Interval};
 ghost use Rattle.dependence.specs.Rules.{Meets};
-ghost use Rattle.rules.specs.Totals.{Small};
+ghost use Rattle.rules.specs.Totals.{SmallTotal};
 ghost use Rattle.verify.specs.Parts.{Low, EdgeMet};
 use dependence::Graph;
 use sizes::MOST_OPERATIONS;
 
 // Whether two starts keep a dependence with this total.
 fn met(from: usize, total: i32, to: usize) -> bool
-    requires { ⌜ (from < mostStarts) × (to < mostStarts) × Small total ⌝ }
+    requires { ⌜ (from < mostStarts) × (to < mostStarts) × SmallTotal total ⌝ }
     ensures { λ r. ⌜ Says ((pos from +ℤ total) ≤ℤ pos to) r ⌝ }
 {
     from as i32 + total <= to as i32
@@ -22,7 +22,7 @@ fn met(from: usize, total: i32, to: usize) -> bool
 
 // Whether the starts keep the dependence of edge k, with its total.
 fn edge_met(graph: Graph, total: i32, starts: [usize; MOST_OPERATIONS], k: usize) -> bool
-    requires { ⌜ InRange graph × Low (graph .ops) (vec starts) × (k < graph .«edge_count») × Small total ⌝ }
+    requires { ⌜ InRange graph × Low (graph .ops) (vec starts) × (k < graph .«edge_count») × SmallTotal total ⌝ }
     ensures { λ r. ⌜ Says (EdgeMet graph total (vec starts) k) r ⌝ }
 {
     let e = graph.edges[k];

@@ -4,7 +4,7 @@ ghost use Rattle.sizes.specs.Sizes.{mostOperations};
 ghost use Rattle.laws.specs.Entry.{vec};
 ghost use Rattle.laws.specs.Says.{Says};
 ghost use Rattle.sheet.specs.Sheet.{InRange};
-ghost use Rattle.verify.specs.Parts.{Clash, Apart, AllApart};
+ghost use Rattle.verify.specs.Parts.{Clash, ApartBefore, AllApart};
 use sheet::Sheet;
 use sizes::MOST_OPERATIONS;
 
@@ -38,7 +38,7 @@ fn apart(
     i: usize,
 ) -> bool
     requires { ⌜ i < mostOperations ⌝ }
-    ensures { λ r. ⌜ Says (Apart sheet interval (vec starts) (vec instances) i) r ⌝ }
+    ensures { λ r. ⌜ Says (ApartBefore sheet interval (vec starts) (vec instances) i) r ⌝ }
 {
     for j in 0..i {
         if clash(sheet, interval, starts, instances, i, j) {

@@ -4,13 +4,13 @@ use mathlib.Core.Path.{refl}
 use native.Mathlib.Omega.{arith}
 use borrow.Author.Needs.{needs}
 use Rattle.sheet.specs.Questions.{at-no, at-yes}
-use Rattle.placing.specs.Asking.{Ready, ready, refuses-placing, goes-on-placing, has-entry}
+use Rattle.placing.specs.Asking.{Placeable, ready, refuses-placing, goes-on-placing, has-entry}
 use Rattle.placing.specs.Room.{lowest-free, none-free}
 use Rattle.placing.specs.Answers.{refused}
 use Rattle.placing.proofs.place.Statement.{statement}
 use Rattle.placing.proofs.place.Tie as tie
 
-ready-here : (c : tie.Else1) → Ready (c .before .before .args .sheet) (c .before .before .args .interval) (c .before .before .args .table) (c .before .before .args .op) (c .before .before .args .start)
+ready-here : (c : tie.Else1) → Placeable (c .before .before .args .sheet) (c .before .before .args .interval) (c .before .before .args .table) (c .before .before .args .op) (c .before .before .args .start)
 ready-here c = ready (c .before .asked .ensures) (c .if1 .left)
 
 asked-requires : tie.Need-asked-requires

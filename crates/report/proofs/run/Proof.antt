@@ -9,7 +9,7 @@ use Rattle.text.specs.Lines.{linesText}
 use Rattle.text.specs.Writing.{part-length}
 use Rattle.sheet.specs.Facts.{cap-most}
 use Rattle.report.specs.Print.{answerLine, intervalLines, none, stops}
-use Rattle.report.specs.Small.{Small, small}
+use Rattle.report.specs.Small.{SmallAnswer, small}
 use Rattle.report.specs.Bounds.{answerMost, planMost, refusalMost, lines-most, refusal-most, answer-most, answer-short}
 use Rattle.report.specs.Printing.{Printing, start, same-size, more-size, finish, again, put-size}
 use native.Mathlib.Omega.{arith}
@@ -26,7 +26,7 @@ abbrev μ-loop : tie.MeasureT-loop
 
 -- at an interval: the numbers are small, the lines are short, and there is room for them
 facts : (c : tie.After-plan-at Inv-loop μ-loop)
-    → Small (c .before .before .before .before .args .sheet) (c .before .before .loop .interval) (c .plan-at .result)
+    → SmallAnswer (c .before .before .before .before .args .sheet) (c .before .before .loop .interval) (c .plan-at .result)
     × (length (linesText (intervalLines (c .before .before .before .before .args .sheet) (c .before .before .loop .interval) (c .plan-at .result))) ≤ planMost)
     × (c .before .before .loop .at + planMost ≤ length (c .before .before .before .before .args .out .now))
 facts c =

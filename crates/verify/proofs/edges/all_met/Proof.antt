@@ -13,7 +13,7 @@ use Rattle.laws.specs.Z.{kept, fits32}
 use Rattle.laws.specs.Entry.{vec, at}
 use Rattle.laws.specs.Tests.{stops, passed}
 use Rattle.dependence.specs.Graph as graphs
-use Rattle.rules.specs.Totals.{Small, totals-are, total-small}
+use Rattle.rules.specs.Totals.{SmallTotal, totals-are, total-small}
 use Rattle.verify.specs.Parts.{EdgeMet}
 use Rattle.verify.proofs.edges.all_met.Statement.{statement}
 use Rattle.verify.proofs.edges.all_met.Tie as tie
@@ -58,7 +58,7 @@ edge-met-requires : tie.Need-edge-met-requires Inv-loop μ-loop
 edge-met-requires c κs =
     let p = c .before .before .before .before .before .pre in
     let h = c .before .loop-test .taken in
-    (p .0, p .2, h, subst Small (sym (total-read c)) (total-small (p .0) (p .1) h))
+    (p .0, p .2, h, subst SmallTotal (sym (total-read c)) (total-small (p .0) (p .1) h))
 
 returns : tie.Need-returns Inv-loop μ-loop
 returns c = stops (tested (c .before)) (λ all. all .met (c .before .before .before .before .loop .k) (c .before .before .before .loop-test .taken)) (c .if1 .taken)

@@ -7,12 +7,12 @@ use Rattle.laws.specs.Says.{yes-says}
 use Rattle.laws.specs.Entry.{vec}
 use Rattle.laws.specs.Tests.{stops, passed}
 use Rattle.sheet.specs.Facts.{ops-most}
-use Rattle.verify.specs.Parts.{Apart}
+use Rattle.verify.specs.Parts.{ApartBefore}
 use Rattle.verify.proofs.pairs.all_apart.Statement.{statement}
 use Rattle.verify.proofs.pairs.all_apart.Tie as tie
 
 abbrev Inv-loop : tie.InvT-loop
-Inv-loop sheet interval starts instances n i₀ i = (i ≤ n) × ((x : ℕ) → x < i → Apart sheet interval (vec starts) (vec instances) x)
+Inv-loop sheet interval starts instances n i₀ i = (i ≤ n) × ((x : ℕ) → x < i → ApartBefore sheet interval (vec starts) (vec instances) x)
 
 abbrev μ-loop : tie.MeasureT-loop
 μ-loop sheet interval starts instances n i₀ i = n - i
