@@ -15,7 +15,7 @@ sys.path.insert(0, os.path.join(os.path.dirname(os.path.abspath(__file__)), ".."
 import encodings_of_plans as encodings
 import reference as ref
 
-SATISFIABLE = 10
+SATISFIABLE, UNSATISFIABLE = 10, 20  # exit statuses of cadical
 
 
 class Question:
@@ -32,7 +32,10 @@ class Question:
     def holds(self, more):
         rows = self.clauses + more
         head = "%s %d" % (self.head.rsplit(" ", 1)[0], len(rows))
-        done = subprocess.run(["cadical", "-q", "-n"], input="\n".join([head] + rows), text=True, stdout=subprocess.DEVNULL)
+        question = "\n".join([head] + rows) + "\n"
+        done = subprocess.run(["cadical", "-q", "-n"], input=question, text=True, stdout=subprocess.DEVNULL)
+        if done.returncode not in (SATISFIABLE, UNSATISFIABLE):
+            sys.exit("first_plan.py: cadical gave no answer")
         return done.returncode == SATISFIABLE
 
 
