@@ -4,7 +4,7 @@ Each encoding asks for the starts alone: instances exist exactly when no slot ho
 limited type than it has instances.
 """
 
-from reference import total
+from reference import latency, total
 
 
 def limited_groups(sheet):
@@ -18,6 +18,11 @@ def limited_groups(sheet):
 def differences(sheet, interval):
     """(i, j, w) for each edge: start of i plus w is at most start of j."""
     return [(e[0], e[1], total(sheet, interval, e)) for e in sheet.edges]
+
+
+def last_start(sheet, i):
+    """The last start inside the horizon whose result is there at its end; below 0 without one."""
+    return sheet.horizon - max(1, latency(sheet, i))
 
 
 # ---- CNF: order encoding of starts, a literal for each start and slot, sequential counters
@@ -64,9 +69,10 @@ def cnf(sheet, interval):
         """The literal of "start of i is at most t": True, False or a variable."""
         return True if t >= last else False if t < 0 else by[i][t]
 
-    for row in by:
+    for i, row in enumerate(by):
         for a, b in zip(row, row[1:]):
             out.add(-a, b)
+        implied(out, True, at_most_at(i, last_start(sheet, i)))
     for i, j, w in differences(sheet, interval):
         for t in range(sheet.horizon):
             after, before = at_most_at(j, t), at_most_at(i, t - w)
@@ -103,7 +109,8 @@ def slot_literals(out, at_most_at, i, horizon, interval):
 def smtlib(sheet, interval, ask=True):
     rows = ["(set-logic QF_LIA)"]
     for i in range(len(sheet.ops)):
-        rows += ["(declare-const t%d Int)" % i, "(assert (and (<= 0 t%d) (< t%d %d)))" % (i, i, sheet.horizon)]
+        last = smt_number(last_start(sheet, i))
+        rows += ["(declare-const t%d Int)" % i, "(assert (and (<= 0 t%d) (<= t%d %s)))" % (i, i, last)]
     for i, j, w in differences(sheet, interval):
         rows.append("(assert (<= (+ t%d %s) t%d))" % (i, smt_number(w), j))
     for a, members in limited_groups(sheet):
@@ -145,7 +152,7 @@ def lp(sheet, interval):
     for a, members in limited_groups(sheet):
         for s in range(interval):
             rows.append(" + ".join("x%d_%d" % (i, s) for i in members) + " <= %d" % a)
-    bounds += ["0 <= t%d <= %d" % (i, sheet.horizon - 1) for i in range(len(sheet.ops))]
+    bounds += ["0 <= t%d <= %d" % (i, last_start(sheet, i)) for i in range(len(sheet.ops))]
     general = ["t%d" % i for i in range(len(sheet.ops))] + ["k%d" % i for i in sorted(limited)]
     parts = ["Minimize", " obj: 0 t0", "Subject To"] + [" c%d: %s" % c for c in enumerate(rows)]
     parts += ["Bounds"] + [" " + b for b in bounds] + ["Generals"] + [" " + g for g in general]
@@ -161,6 +168,7 @@ def dzn(sheet, interval):
     groups = list(limited_groups(sheet))
     rows = [
         "n = %d; horizon = %d; interval = %d;" % (len(sheet.ops), sheet.horizon, interval),
+        "last = %s;" % [last_start(sheet, i) for i in range(len(sheet.ops))],
         "e = %d;" % len(edges),
         "source = %s;" % [i + 1 for i, _, _ in edges],
         "target = %s;" % [j + 1 for _, j, _ in edges],

@@ -21,7 +21,8 @@ static const char NOT_MONOTONE[] =
     "horizon=5\ncap=5\ntypes=1\ntype=1,1\nops=2\nop=0\nop=0\nedges=2\nedge=0,1,3,0\nedge=1,0,-5,0\n";
 static const char SELF[] = "horizon=1\ncap=3\ntypes=1\ntype=0,1\nops=1\nop=0\nedges=1\nedge=0,0,0,0\n";
 static const char THREE[] = "horizon=2\ncap=2\ntypes=1\ntype=2,1\nops=3\nop=0\nop=0\nop=0\nedges=0\n";
-static const char ONE[] = "horizon=1\ncap=1\ntypes=1\ntype=1,2\nops=1\nop=0\nedges=0\n";
+static const char ONE[] = "horizon=2\ncap=1\ntypes=1\ntype=1,2\nops=1\nop=0\nedges=0\n";
+static const char LATE[] = "horizon=1\ncap=1\ntypes=1\ntype=1,2\nops=1\nop=0\nedges=0\n";
 static const char PLAN_A[] = "answer=0\ninterval=3\nat=0,0\nat=1,0\nat=2,0\n";
 static const char PLAN_THREE[] = "answer=0\ninterval=2\nat=0,0\nat=0,1\nat=1,0\n";
 
@@ -73,10 +74,13 @@ static void valid_sheets(void)
     EXPECT(least_is(NOT_MONOTONE, strlen(NOT_MONOTONE), 0, 3));
     EXPECT(least_is(SELF, strlen(SELF), 7, 0));
     EXPECT(least_is(THREE, strlen(THREE), 0, 2));
+    EXPECT(least_is(ONE, strlen(ONE), 0, 1));
+    EXPECT(least_is(LATE, strlen(LATE), 7, 0));
     EXPECT(text_is(A, strlen(A), 3, 100, 0, PLAN_A));
     EXPECT(text_is(A, strlen(A), 1, 100, 5, ""));
     EXPECT(text_is(A, strlen(A), 2, 100, 6, ""));
     EXPECT(text_is(THREE, strlen(THREE), 2, 100, 0, PLAN_THREE));
+    EXPECT(text_is(LATE, strlen(LATE), 1, 100, 6, ""));
     EXPECT(text_is(NOT_MONOTONE, strlen(NOT_MONOTONE), 4, 100, 6, ""));
     EXPECT(text_is(NOT_MONOTONE, strlen(NOT_MONOTONE), 5, 100, 0, "answer=0\ninterval=5\nat=0,0\nat=4,0\n"));
 }
@@ -113,6 +117,7 @@ static void pairs(void)
     EXPECT(order_is(THREE, 2, 1, 0, 1));
     EXPECT(order_is(B, 2, 1, 0, 1));
     EXPECT(order_is(ONE, 1, 0, 14, 0));
+    EXPECT(order_is(LATE, 1, 0, 6, 0));
 }
 
 static void refused_sheets(void)

@@ -163,10 +163,15 @@ def instance_range(sheet, i):
     return range(instances_of(sheet, i) or 1)
 
 
+def start_range(sheet, i):
+    """Starts inside the horizon (the frame), with the result not lost after its end."""
+    return [t for t in range(sheet.horizon) if t + latency(sheet, i) <= sheet.horizon]
+
+
 def is_plan(sheet, interval, starts, units):
     n = len(sheet.ops)
     return (
-        all(0 <= t < sheet.horizon for t in starts)
+        all(starts[i] in start_range(sheet, i) for i in range(n))
         and all(dependence_kept(sheet, interval, e, starts) for e in sheet.edges)
         and all(units[i] in instance_range(sheet, i) for i in range(n))
         and not any(
@@ -245,7 +250,7 @@ def first_plan(sheet, interval):
             found.append(units)
         return units is not None
 
-    starts = first_list([range(sheet.horizon)] * len(sheet.ops), fits)
+    starts = first_list([start_range(sheet, i) for i in range(len(sheet.ops))], fits)
     return None if starts is None else (list(starts), found[0])
 
 

@@ -2,7 +2,7 @@
 
 import random
 
-from reference import Sheet, sheet_text
+from reference import Sheet, earliest_starts, latency, sheet_text
 
 # Bytes that a damaged sheet may get: every class of the format, and others.
 ODD_BYTES = b"0123456789-,=\n\r +.\x00\x7f\x80\xff" + b"horizncaptyesdg"
@@ -15,6 +15,23 @@ def small_sheet(rng):
     ops = [rng.randrange(len(types)) for _ in range(n)]
     edges = [small_edge(rng, n) for _ in range(rng.choice([0, 1, 2, 3, 4, 5, 6, 8]))]
     return Sheet(rng.randint(1, 6), rng.randint(1, 6), types, ops, edges)
+
+
+def late_sheet(rng):
+    """A small sheet whose frame ends about when its results arrive: dependences that can be met, and a horizon from just
+    past the last of the earliest starts to just past the last result."""
+    while True:
+        sheet = small_sheet(rng)
+        sheet.types = [(a, rng.choice([0, d, d, rng.randint(1, 6)])) for a, d in sheet.types]
+        answer, starts, _ = earliest_starts(sheet, sheet.cap)
+        if answer == 0 and max(starts) < 6:
+            results = [t + latency(sheet, i) for i, t in enumerate(starts)]
+            sheet.horizon = rng.randint(max(starts) + 1, max(max(starts), *results) + 1)
+            return sheet
+
+
+def any_small_sheet(rng):
+    return rng.choice([small_sheet, small_sheet, late_sheet])(rng)
 
 
 def small_edge(rng, n):

@@ -251,10 +251,21 @@ def odd_plans():
     yield ref.sheet_text(Sheet(2, 2, [(0, 1)], [0], [(0, 0, -2, 0)] * 10 + [(0, 0, 2, 1), (0, 0, 3, 1)]))
 
 
+def ends_of_frames():
+    """Results at the horizon and a clock past it; latency 0, which still asks for a start below the horizon."""
+    for horizon in (128, 127):
+        yield ref.sheet_text(Sheet(horizon, 64, [(0, 32)], [0, 0], [(0, 1, 64, 0)]))
+    for horizon, latency in ((32, 32), (31, 32), (1, 1), (1, 32), (1, 0), (2, 0), (3, 2), (3, 3)):
+        yield ref.sheet_text(Sheet(horizon, 3, [(1, latency)], [0, 0], []))
+    for horizon in (5, 6, 7):
+        yield ref.sheet_text(Sheet(horizon, 4, [(1, 1), (0, 4)], [0, 0, 1], [(1, 2, 0, 0)]))
+
+
 def plan_pieces():
-    rng = sheets.seeded(4)
+    rng, late = sheets.seeded(4), sheets.seeded(8)
     pieces = list(paper_cases()) + list(odd_plans())
     pieces += [sheets.text_of(sheets.small_sheet, rng) for _ in range(400)]
+    pieces += list(ends_of_frames()) + [sheets.text_of(sheets.late_sheet, late) for _ in range(200)]
     return list(dict.fromkeys(pieces))
 
 
@@ -273,9 +284,11 @@ PAGE = [
     ("bounds", "no_register"),
     ("starts interval=3", "sample_deadline"),
     ("starts interval=1", "both_bounds_low"),
+    ("starts interval=4", "horizon_too_short"),
     ("separations interval=5", "clarke_park"),
     ("plan interval=4", "three_phases"),
     ("plan interval=2", "both_bounds_low"),
+    ("plan interval=2", "frame_end"),
     ("order interval=3 pair=0", "sample_deadline"),
     ("check", "sample_deadline"),
     ("check", "leading_zero"),

@@ -168,9 +168,12 @@ fn search(p: &Task, from: &Domain, dirty: [bool; OPS], blame: [u64; OPS]) -> Fou
     f
 }
 
-fn first_plan(p: &Task, horizon: usize) -> Found {
+fn first_plan(p: &Task, sheet: &Sheet) -> Found {
     let mut d = [[false; STARTS]; OPS];
-    for i in 0..p.n { for t in 0..horizon { d[i][t] = true; } }
+    for i in 0..p.n {
+        let latency = sheet.types[sheet.ops[i]].1 as usize;
+        for t in 0..sheet.horizon { d[i][t] = t + latency <= sheet.horizon; }
+    }
     let mut f = search(p, &d, [true; OPS], [1; OPS]);
     let Some(mut x) = f.plan else { return f };
     for i in 0..p.n {
@@ -200,7 +203,7 @@ fn main() {
         at = end + 1 + length;
         for l in 1..=sheet.cap {
             let began = now();
-            let found = task(&sheet, l).map(|p| first_plan(&p, sheet.horizon));
+            let found = task(&sheet, l).map(|p| first_plan(&p, &sheet));
             let took = now() - began;
             let answer = match &found { None => 5, Some(f) if f.plan.is_none() => 6, Some(_) => 0 };
             let nodes = found.as_ref().map_or(0, |f| f.nodes);

@@ -8,6 +8,8 @@ ghost use Rattle.plan.specs.Rules.{InstanceAllowed, Rivals, Overlap, slot};
 
 mod starts;
 
+use sheet::NO_TYPE;
+use sheet::ResourceType;
 use sheet::Sheet;
 use sizes::MOST_OPERATIONS;
 use sizes::MOST_TYPES;
@@ -24,15 +26,22 @@ pub fn resource_of(sheet: Sheet, op: usize) -> usize
     operation.resource
 }
 
+// What an operation's type says; past the array a type is all 0.
+fn type_of(sheet: Sheet, op: usize) -> ResourceType
+    ensures { λ r. ⌜ r ≡ typeOf sheet op ⌝ }
+{
+    let resource = resource_of(sheet, op);
+    if MOST_TYPES <= resource {
+        return NO_TYPE;
+    }
+    sheet.types[resource]
+}
+
 // The instances of an operation's type; 0 is unlimited.
 pub fn instances_of(sheet: Sheet, op: usize) -> usize
     ensures { λ r. ⌜ r ≡ typeOf sheet op .instances ⌝ }
 {
-    let resource = resource_of(sheet, op);
-    if MOST_TYPES <= resource {
-        return 0;
-    }
-    let found = sheet.types[resource];
+    let found = type_of(sheet, op);
     found.instances
 }
 

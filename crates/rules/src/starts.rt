@@ -1,14 +1,19 @@
-// What an operation asks of its own start, whatever the others do.
+// What an operation asks of its own start, whatever the others do: to start and to finish inside the horizon.
 ghost use Rattle.laws.specs.Says.{Says};
 ghost use Rattle.rules.specs.Starts.{InHorizon, RowFor};
+use crate::type_of;
 use sheet::Sheet;
 use sizes::MOST_STARTS;
 
-// Whether a start is in the horizon.
-fn in_horizon(horizon: usize, t: usize) -> bool
-    ensures { λ r. ⌜ Says (InHorizon horizon t) r ⌝ }
+// Whether a start is in the horizon and the result is there at its end.
+fn in_horizon(horizon: usize, latency: usize, t: usize) -> bool
+    ensures { λ r. ⌜ Says (InHorizon horizon latency t) r ⌝ }
 {
-    t < horizon
+    if horizon < t {
+        return false;
+    }
+    let left = horizon - t;
+    0 < left && latency <= left
 }
 
 // The starts that an operation may have, a flag for each.
@@ -16,9 +21,11 @@ pub fn allowed_starts(sheet: Sheet, interval: usize, op: usize) -> [bool; MOST_S
     ensures { λ r. ⌜ RowFor sheet interval op r ⌝ }
 {
     let horizon = sheet.horizon;
+    let found = type_of(sheet, op);
+    let latency = found.latency;
     let mut row = [false; MOST_STARTS];
     for t in 0..MOST_STARTS {
-        row[t] = in_horizon(horizon, t);
+        row[t] = in_horizon(horizon, latency, t);
     }
     row
 }

@@ -41,6 +41,7 @@ pub data Claim : Type 0 where
   refuses-walk : Sheet → ℕ → List ℕ → Claim
   always-refuses-walk : Sheet → List ℕ → Claim
   refuses-plan : Sheet → ℕ → List ℕ → Claim
+  always-refuses-plan : Sheet → List ℕ → Claim
   gives : Sheet → ℕ → List ℕ → List ℕ → Claim
   always-gives : Sheet → List ℕ → List ℕ → Claim
   least-is : Sheet → ℕ → List ℕ → List ℕ → Claim
@@ -66,6 +67,7 @@ Stated refuses-outside = (s : Sheet) → InRange s → PlanAt s 0 (refused 4) ×
 Stated (refuses-walk s L ks) = PlanAt s L (loopOf ks)
 Stated (always-refuses-walk s ks) = (L : ℕ) → Interval s L → PlanAt s L (loopOf ks)
 Stated (refuses-plan s L ts) = PlanAt s L (refused 6)
+Stated (always-refuses-plan s ts) = (L : ℕ) → Interval s L → PlanAt s L (refused 6)
 Stated (gives s L ts us) = PlanAt s L (planOf ts us)
 Stated (always-gives s ts us) = (L : ℕ) → Interval s L → PlanAt s L (planOf ts us)
 Stated (least-is s L ts us) = LeastInterval s (record { answer = 0; interval = L })
@@ -92,12 +94,17 @@ givesTest s L ts us = both (sheetTest s) (both (intervalTest s L) (both (eqb (le
 abbrev pub walkTest : Sheet → ℕ → List ℕ → Bool
 walkTest s L ks = both (sheetTest s) (both (intervalTest s L) (both (leb (length ks) mostOperations) (firstWalkTest (graphOf s) L ks)))
 
+-- questions 3 to 5 got a yes, as these starts meet the dependences, and there is no plan
+abbrev pub denialTest : Sheet → ℕ → List ℕ → Bool
+denialTest s L ts = both (sheetTest s) (both (intervalTest s L) (both (meetsTest s L ts) (noPlanTest s L)))
+
 -- what is computed to show a claim; plans and walks are tried one by one
 abbrev pub test : Claim → Bool
 test refuses-outside = true
 test (refuses-walk s L ks) = walkTest s L ks
 test (always-refuses-walk s ks) = intervals (suc (s .cap)) (λ L. walkTest s L ks)
-test (refuses-plan s L ts) = both (sheetTest s) (both (intervalTest s L) (both (meetsTest s L ts) (noPlanTest s L)))
+test (refuses-plan s L ts) = denialTest s L ts
+test (always-refuses-plan s ts) = intervals (suc (s .cap)) (λ L. denialTest s L ts)
 test (gives s L ts us) = givesTest s L ts us
 test (always-gives s ts us) = intervals (suc (s .cap)) (λ L. givesTest s L ts us)
 test (least-is s L ts us) = both (sheetTest s) (both (intervalTest s L) (both (planTest s L ts us) (intervals L (noPlanTest s))))
@@ -195,18 +202,23 @@ walk-is s L ks e =
       pinned = refl;
     })))
 
--- the tests show the claims
-pub shown : (c : Claim) → test c ≡ true → Stated c
-shown refuses-outside e = λ s ok. (at-yes ok (at-no (λ i. omega (arith, i .low)) refl), at-yes ok (at-no (λ i. omega (arith, i .high)) refl))
-shown (refuses-walk s L ks) e = walk-is s L ks e
-shown (always-refuses-walk s ks) e = λ L i. walk-is s L ks (below (suc (s .cap)) (λ L. walkTest s L ks) e L (i .low) (omega (arith, i .high)))
-shown (refuses-plan s L ts) e =
+-- the test shows the denial
+denial-is : (s : Sheet) (L : ℕ) (ts : List ℕ) → denialTest s L ts ≡ true → PlanAt s L (refused 6)
+denial-is s L ts e =
     let a = both-true (sheetTest s) (both (intervalTest s L) (both (meetsTest s L ts) (noPlanTest s L))) e in
     let b = both-true (intervalTest s L) (both (meetsTest s L ts) (noPlanTest s L)) (a .1) in
     let c = both-true (meetsTest s L ts) (noPlanTest s L) (b .1) in
     let ok = sheet-is s (a .0) in
     let iv = interval-is s L (b .0) in
     at-yes ok (at-yes iv (at-yes (feasible ok iv (meets-is s L ts (c .0))) (at-no (no-plan s L ok (c .1)) refl)))
+
+-- the tests show the claims
+pub shown : (c : Claim) → test c ≡ true → Stated c
+shown refuses-outside e = λ s ok. (at-yes ok (at-no (λ i. omega (arith, i .low)) refl), at-yes ok (at-no (λ i. omega (arith, i .high)) refl))
+shown (refuses-walk s L ks) e = walk-is s L ks e
+shown (always-refuses-walk s ks) e = λ L i. walk-is s L ks (below (suc (s .cap)) (λ L. walkTest s L ks) e L (i .low) (omega (arith, i .high)))
+shown (refuses-plan s L ts) e = denial-is s L ts e
+shown (always-refuses-plan s ts) e = λ L i. denial-is s L ts (below (suc (s .cap)) (λ L. denialTest s L ts) e L (i .low) (omega (arith, i .high)))
 shown (gives s L ts us) e = given-is s L ts us e
 shown (always-gives s ts us) e = λ L i. given-is s L ts us (below (suc (s .cap)) (λ L. givesTest s L ts us) e L (i .low) (omega (arith, i .high)))
 shown (least-is s L ts us) e =

@@ -3,14 +3,14 @@ use mathlib.Core.Path.{_≡_, refl, sym, ap, ap₂, subst, _∙_}
 use mathlib.Core.Bool.{Bool, true, false, cond, not}
 use mathlib.Core.Logic.{_⊎_, inl, inr, ⊎-elim}
 use mathlib.Core.List.{List, [], _∷_}
-use Prim.Native.Nat.{ℕ, zero, suc, _%_, _<_, _≤_, max}
+use Prim.Native.Nat.{ℕ, zero, suc, _+_, _%_, _<_, _≤_, max}
 use native.Mathlib.Omega.{arith}
 use native.Mathlib.Decide.{ℕ-discrete}
-use lib.Dec.{eqb, ltb}
+use lib.Dec.{eqb, ltb, leb}
 use lib.ListN.{getD, length}
 use lib.IntN.{ℤ, pos, _+ℤ_}
 use lib.Signed.{leZ, _≤ℤ_}
-use borrow.Author.Tests.{eqb-true, eqb-false, eq-eqb, ne-eqb, lt-ltb, ltb-true, not-true}
+use borrow.Author.Tests.{eqb-true, eqb-false, eq-eqb, ne-eqb, lt-ltb, ltb-true, le-leb, leb-true, not-true}
 use Rattle.laws.specs.Entry.{vec}
 use Rattle.laws.specs.Z.{true-false, leZ-true, true-leZ}
 use Rattle.laws.specs.Count.{both-true, both-show}
@@ -20,13 +20,13 @@ use Rattle.sheet.specs.declared.Sheet.{Sheet}
 use Rattle.sheet.specs.Sheet.{InRange, typeAt, typeOf, opAt, graphOf}
 use Rattle.sheet.specs.Answer.{sheetAnswer}
 use Rattle.sheet.specs.AnswerLaws.{sheet-inside}
-use Rattle.plan.specs.Rules.{Plan, InstanceAllowed}
+use Rattle.plan.specs.Rules.{Plan, StartAllowed, InstanceAllowed}
 use Rattle.plan.specs.Order.{Same, Less}
 use Rattle.plan.specs.Answers.{First}
 use Rattle.plan.specs.Local.{plan-local}
 use Rattle.plan.specs.Resource.{greatest}
 use Rattle.plan.specs.Total.{same-sym, same-trans}
-use Rattle.starred_cases.specs.Tests.{both, upTo, every, lexThen, sheetTest, meetsTest, instanceTest, clashTest, startsTest, instancesTest, apartTest, planTest, instancesBelow, plansTest, noPlanTest, firstTest}
+use Rattle.starred_cases.specs.Tests.{both, upTo, every, lexThen, sheetTest, meetsTest, instanceTest, clashTest, startTest, startsTest, instancesTest, apartTest, planTest, instancesBelow, plansTest, noPlanTest, firstTest}
 use Rattle.starred_cases.specs.Lists.{up-at, up-show, every-at, listOf, list-length, list-at, lex-order}
 
 -- ---- the questions about the sheet
@@ -44,6 +44,14 @@ instance-is (suc a) u e = ((λ l. ltb-true u (suc a) e), λ z. absurd (omega ari
 instance-show : (a u : ℕ) → (0 < a → u < a) → (a ≡ 0 → u ≡ 0) → instanceTest a u ≡ true
 instance-show zero u l z = eq-eqb u 0 (z refl)
 instance-show (suc a) u l z = lt-ltb u (suc a) (l (omega arith))
+
+start-is : (s : Sheet) (L i t : ℕ) → startTest s i t ≡ true → StartAllowed s L i t
+start-is s L i t e =
+    let q = both-true (ltb t (s .horizon)) (leb (t + typeOf s i .latency) (s .horizon)) e in
+    record { inHorizon = ltb-true t (s .horizon) (q .0); finishes = leb-true (t + typeOf s i .latency) (s .horizon) (q .1); holds = tt }
+
+start-show : (s : Sheet) (L i t : ℕ) → StartAllowed s L i t → startTest s i t ≡ true
+start-show s L i t a = both-show (ltb t (s .horizon)) _ (lt-ltb t (s .horizon) (a .inHorizon)) (le-leb (t + typeOf s i .latency) (s .horizon) (a .finishes))
 
 show-not : (b : Bool) → (b ≡ true → ⊥) → not b ≡ true
 show-not true n = absurd (n refl)
@@ -67,7 +75,7 @@ module _ (s : Sheet) (L : ℕ) where
         let b = both-true (meetsTest s L ts) (both (instancesTest s us) (apartTest s L ts us)) (a .1) in
         let c = both-true (instancesTest s us) (apartTest s L ts us) (b .1) in
         record {
-          start = λ i l. record { inHorizon = ltb-true (vec ts i) (s .horizon) (up-at (s .«op_count») (λ j. ltb (vec ts j) (s .horizon)) (a .0) i l); holds = tt };
+          start = λ i l. start-is s L i (vec ts i) (up-at (s .«op_count») (λ j. startTest s j (vec ts j)) (a .0) i l);
           dependence = meets-is ts (b .0);
           instance = λ i l. let q = instance-is (typeOf s i .instances) (vec us i) (up-at (s .«op_count») (λ j. instanceTest (typeOf s j .instances) (vec us j)) (c .0) i l) in
               record { limited = q .0; unlimited = q .1 };
@@ -81,7 +89,7 @@ module _ (s : Sheet) (L : ℕ) where
     pub plan-show : Plan s L (vec ts) (vec us) → planTest s L ts us ≡ true
     unfolding planTest clash
     plan-show p =
-        both-show (startsTest s ts) _ (up-show (s .«op_count») (λ j. ltb (vec ts j) (s .horizon)) (λ i l. lt-ltb (vec ts i) (s .horizon) (p .start i l .inHorizon)))
+        both-show (startsTest s ts) _ (up-show (s .«op_count») (λ j. startTest s j (vec ts j)) (λ i l. start-show s L i (vec ts i) (p .start i l)))
         (both-show (meetsTest s L ts) _ (up-show (s .«edge_count») (λ k. leZ (pos (vec ts (edgeAt (graphOf s) k .from)) +ℤ total (graphOf s) L k) (pos (vec ts (edgeAt (graphOf s) k .to)))) (λ k l. true-leZ (p .dependence .met k l)))
         (both-show (instancesTest s us) _ (up-show (s .«op_count») (λ j. instanceTest (typeOf s j .instances) (vec us j)) (λ i l. instance-show (typeOf s i .instances) (vec us i) (p .instance i l .limited) (p .instance i l .unlimited)))
         (up-show (s .«op_count») (λ i. upTo (s .«op_count») (λ j. not (clash i j))) (λ i h. up-show (s .«op_count») (λ j. not (clash i j)) (λ j k. show-not (clash i j) (apart i j h k))))))

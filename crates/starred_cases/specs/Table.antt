@@ -8,7 +8,7 @@ use Rattle.sheet.specs.declared.Sheet.{Sheet}
 use Rattle.sheet.specs.declared.Operation.{Operation}
 use Rattle.sheet.specs.declared.ResourceType.{ResourceType}
 use Rattle.reader.specs.Read.{sheetOf}
-use Rattle.starred_cases.specs.Claims.{Claim, refuses-outside, refuses-walk, always-refuses-walk, refuses-plan, gives, always-gives, least-is, least-refused, recurrence-is, recurrence-refused, resource-is, pair-out, pair-in}
+use Rattle.starred_cases.specs.Claims.{Claim, refuses-outside, refuses-walk, always-refuses-walk, refuses-plan, always-refuses-plan, gives, always-gives, least-is, least-refused, recurrence-is, recurrence-refused, resource-is, pair-out, pair-in}
 
 abbrev type : ℕ → ℕ → ResourceType
 type a d = record { instances = a; latency = d }
@@ -35,11 +35,12 @@ itself d = sheetOf 4 64 (type 1 d ∷ []) (op 0 ∷ []) (edge 0 0 (pos 0) 0 ∷ 
 abbrev three : ℕ → Sheet
 three horizon = sheetOf horizon 2 (type 2 1 ∷ []) (op 0 ∷ op 0 ∷ op 0 ∷ []) []
 
--- one operation of latency 2 in a horizon of 1
-abbrev alone : Sheet
-alone = sheetOf 1 64 (type 1 2 ∷ []) (op 0 ∷ []) []
+-- one operation of latency 2
+abbrev alone : ℕ → Sheet
+alone horizon = sheetOf horizon 64 (type 1 2 ∷ []) (op 0 ∷ []) []
 
--- the claims of the starred cases in the order of 01; of case A also the answer at each interval that leastplan prints
+-- the claims of the starred cases in the order of 01, as the requests of 02 leave them; of case A also the answer at
+-- each interval that leastplan prints
 abbrev pub table : List Claim
 table =
     recurrence-is (ring 3) 2 (0 ∷ 1 ∷ 2 ∷ []) (0 ∷ 1 ∷ 2 ∷ []) ∷
@@ -60,8 +61,10 @@ table =
     always-gives (itself 0) (0 ∷ []) (0 ∷ []) ∷
     refuses-plan (three 1) 1 (0 ∷ 0 ∷ 0 ∷ []) ∷
     gives (three 2) 2 (0 ∷ 0 ∷ 1 ∷ []) (0 ∷ 1 ∷ 0 ∷ []) ∷
-    always-gives alone (0 ∷ []) (0 ∷ []) ∷
+    always-refuses-plan (alone 1) (0 ∷ []) ∷
+    least-refused (alone 1) ∷
+    always-gives (alone 2) (0 ∷ []) (0 ∷ []) ∷
     refuses-outside ∷
-    pair-out alone 1 (0 ∷ []) (0 ∷ []) 0 ∷
+    pair-out (alone 2) 1 (0 ∷ []) (0 ∷ []) 0 ∷
     pair-in 24 275 ∷
     []

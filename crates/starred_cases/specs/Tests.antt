@@ -62,9 +62,13 @@ clashTest s L ts us i j =
     (both (eqb (opAt s i .resource) (opAt s j .resource))
     (both (ltb 0 (typeOf s i .instances)) (both (eqb (vec us i) (vec us j)) (eqb (vec ts i % L) (vec ts j % L)))))
 
--- start: t is below H, for every operation
+-- start: t is below H, and t plus D is at most H
+abbrev pub startTest : Sheet → ℕ → ℕ → Bool
+startTest s i t = both (ltb t (s .horizon)) (leb (t + typeOf s i .latency) (s .horizon))
+
+-- start, for every operation
 abbrev pub startsTest : Sheet → List ℕ → Bool
-startsTest s ts = upTo (s .«op_count») (λ i. ltb (vec ts i) (s .horizon))
+startsTest s ts = upTo (s .«op_count») (λ i. startTest s i (vec ts i))
 
 -- instance, for every operation with the A of its type
 abbrev pub instancesTest : Sheet → List ℕ → Bool
