@@ -198,13 +198,25 @@ REFUSED = [
 ]
 
 
+def late_results():
+    """No plan, as results come after the horizon; starts, separations and bounds are as in any longer one."""
+    yield 1, 3, [(1, 2)], [0], []
+    yield 2, 3, [(1, 3)], [0, 0], [(0, 1, 0, 0), (1, 0, 0, 2)]
+    yield 3, 4, [(2, 32), (0, 4)], [0, 0, 0, 1], [(0, 1, 0, 0), (1, 3, -31, 0), (3, 0, 0, 8)]
+
+
 def pieces():
     """Each piece with the lines that are due for it."""
     for fields in itertools.chain(chosen(), random_sheets(random.Random(SEED), 150)):
-        sheet = Sheet(*fields)
-        yield sheet_text(sheet).decode(), expected(0, sheet)
+        yield accepted(fields)
     for answer, piece in REFUSED:
         yield piece, expected(answer, None)
+    yield from map(accepted, late_results())
+
+
+def accepted(fields):
+    sheet = Sheet(*fields)
+    return sheet_text(sheet).decode(), expected(0, sheet)
 
 
 def main():

@@ -8,9 +8,10 @@
 #include "leastplan_placing.h"
 #include "expect.h"
 
-/* Operations 0, 1 and 3 are rivals with two instances, 2 is of an unlimited type; starts 0 to 3, intervals 1 to 3. */
+/* Operations 0, 1 and 3 are rivals with two instances, 2 is of an unlimited type; starts 0 to 3, intervals 1 to 3. The
+   result of 2 comes after the horizon at any start: so the sheet has no plan, but a table may hold the operation. */
 static const leastplan_sheet FOUR = {
-    .horizon = 4, .cap = 3, .type_count = 2, .types = {{2, 1}, {0, 1}},
+    .horizon = 4, .cap = 3, .type_count = 2, .types = {{2, 1}, {0, 9}},
     .op_count = 4, .ops = {{0}, {0}, {1}, {0}},
     .edge_count = 1, .edges = {{0, 1, 1, 0}},
 };

@@ -143,10 +143,18 @@ def random_scripts():
         yield sheet, list(random_tables(rng, sheet, 12))
 
 
+def late_results():
+    """No plan, as results come after the horizon; a table asks of a start only that it lies in the horizon."""
+    for latency in (2, 3):
+        sheet = Sheet(2, 2, [(1, latency), (0, 32)], [0, 0, 1], [])
+        script = [(b"new", 2)] + [(b"place", 2, op, start) for start in (2, 1, 0) for op in (0, 1, 2)] + [(b"table", 0)]
+        yield sheet, script + handed_in([(0, 1, 1, 0), (2, 1, 1, 0)], [1, 2], 1, 0)
+
+
 def scripts():
     """(sheet, script) of each pair of pieces."""
     yield None, steps(1)
-    for part in (single_entries(), entry_pairs(), first_question(), whole_tables(), random_scripts()):
+    for part in (single_entries(), entry_pairs(), first_question(), whole_tables(), random_scripts(), late_results()):
         yield from part
 
 

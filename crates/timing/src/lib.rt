@@ -1,5 +1,6 @@
 // The timing services on a loop sheet: earliest starts (ASAP), separations (MinDist) and the recurrence bound (RecMII).
-// Each puts its questions in order and asks the dependence part about the sheet's graph.
+// Each puts its questions in order and asks the dependence part about the sheet's graph. The horizon plays no part in
+// any of them: neither starts nor results need to lie inside it.
 ghost use mathlib.Core.Path.{_≡_};
 ghost use Rattle.timing.specs.Answers.{WalkAt, StartsAt, SeparationsAt, RecurrenceAt, withoutLoop, startsRefused};
 use dependence::BadWalk;
@@ -41,8 +42,8 @@ pub fn bad_walk(sheet: Sheet, interval: usize) -> BadWalk
     dependence::bad_walk(sheet::graph_of(sheet), interval)
 }
 
-// The least starts, all at least 0, that meet every dependence; the horizon plays no part. Or the sheet's refusal, 4,
-// or 5 with the first bad closed walk.
+// The least starts, all at least 0, that meet every dependence; they may lie past the horizon, as may their results. Or
+// the sheet's refusal, 4, or 5 with the first bad closed walk.
 pub fn earliest_starts(sheet: Sheet, interval: usize) -> Starts
     ensures { λ r. ⌜ StartsAt sheet interval r ⌝ }
 {
@@ -53,8 +54,8 @@ pub fn earliest_starts(sheet: Sheet, interval: usize) -> Starts
     dependence::earliest(sheet::graph_of(sheet), interval, [0; MOST_OPERATIONS])
 }
 
-// The separation table: each cell the greatest sum over walks of at least one edge, or the mark. All 0 where `bad_walk`
-// refuses.
+// The separation table: each cell the greatest sum over walks of at least one edge, or the mark, whatever the horizon.
+// All 0 where `bad_walk` refuses.
 pub fn separations(sheet: Sheet, interval: usize) -> [[i32; MOST_OPERATIONS]; MOST_OPERATIONS]
     ensures { λ r. ⌜ SeparationsAt sheet interval r ⌝ }
 {
@@ -64,7 +65,7 @@ pub fn separations(sheet: Sheet, interval: usize) -> [[i32; MOST_OPERATIONS]; MO
     dependence::separations(sheet::graph_of(sheet), interval)
 }
 
-// The least interval in 1 to the cap without a bad closed walk, or the sheet's refusal, or 8.
+// The least interval in 1 to the cap without a bad closed walk, whatever the horizon; or the sheet's refusal, or 8.
 pub fn recurrence_bound(sheet: Sheet) -> Bound
     ensures { λ r. ⌜ RecurrenceAt sheet r ⌝ }
 {
