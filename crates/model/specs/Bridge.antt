@@ -129,7 +129,7 @@ module _ (s : Sheet) (L : ℕ) (table : List (List ℤ)) (p : Task) (ok : InRang
     }
       where
         small : (i : ℕ) → i < p .ops → t i < mostStarts
-        small i h = omega (arith, a i (op-in f h) .inHorizon, horizon-most ok)
+        small i h = omega (arith, a i (op-in f h) .inHorizon .starts, horizon-most ok)
 
     pub of-domain : (t : ℕ → ℕ) → In (p .ops) dom t → (i : ℕ) → i < s .«op_count» → StartAllowed s L i (t i)
     of-domain t n i h = d .row i (omega (arith, ops-most ok)) .start (t i) (n .small i (op-of h)) .yes (n .allowed i (op-of h))

@@ -68,7 +68,7 @@ module _ {s : Sheet} {L : ℕ} (ok : InRange s) (v : Interval s L) where
 
   module _ (ts us : List ℕ) (p : Plan s L (vec ts) (vec us)) where
     start-small : ZeroFrom (s .«op_count») ts → (i : ℕ) → Dec (i < s .«op_count») → vec ts i ≤ threeDigits
-    start-small z i (yes l) = let h = horizon-most ok in let t = p .start i l .inHorizon in omega arith
+    start-small z i (yes l) = let h = horizon-most ok in let t = p .start i l .inHorizon .starts in omega arith
     start-small z i (no l) = let e = z .rest i (omega arith) in omega arith
 
     unit-small : ZeroFrom (s .«op_count») us → (i : ℕ) → Dec (i < s .«op_count») → vec us i ≤ threeDigits

@@ -1,6 +1,7 @@
 // What an operation asks of its own start, whatever the others do: to start and to finish inside the horizon.
 ghost use Rattle.laws.specs.Says.{Says};
-ghost use Rattle.rules.specs.Starts.{InHorizon, RowFor};
+ghost use Rattle.plan.specs.Rules.{InHorizon};
+ghost use Rattle.rules.specs.Starts.{RowFor};
 use crate::type_of;
 use sheet::Sheet;
 use sizes::MOST_STARTS;

@@ -48,10 +48,10 @@ instance-show (suc a) u l z = lt-ltb u (suc a) (l (omega arith))
 start-is : (s : Sheet) (L i t : ℕ) → startTest s i t ≡ true → StartAllowed s L i t
 start-is s L i t e =
     let q = both-true (ltb t (s .horizon)) (leb (t + typeOf s i .latency) (s .horizon)) e in
-    record { inHorizon = ltb-true t (s .horizon) (q .0); finishes = leb-true (t + typeOf s i .latency) (s .horizon) (q .1); holds = tt }
+    record { inHorizon = record { starts = ltb-true t (s .horizon) (q .0); finishes = leb-true (t + typeOf s i .latency) (s .horizon) (q .1) }; holds = tt }
 
 start-show : (s : Sheet) (L i t : ℕ) → StartAllowed s L i t → startTest s i t ≡ true
-start-show s L i t a = both-show (ltb t (s .horizon)) _ (lt-ltb t (s .horizon) (a .inHorizon)) (le-leb (t + typeOf s i .latency) (s .horizon) (a .finishes))
+start-show s L i t a = both-show (ltb t (s .horizon)) _ (lt-ltb t (s .horizon) (a .inHorizon .starts)) (le-leb (t + typeOf s i .latency) (s .horizon) (a .inHorizon .finishes))
 
 show-not : (b : Bool) → (b ≡ true → ⊥) → not b ≡ true
 show-not true n = absurd (n refl)
@@ -138,7 +138,7 @@ module _ (s : Sheet) (L : ℕ) (ok : InRange s) (t u : ℕ → ℕ) (q : Plan s 
   unfolding plansTest ts us
   plan-has p e =
       let a = every-at (s .«op_count») (s .horizon) (λ xs. every (s .«op_count») (instancesBelow s) (λ ys. cond (planTest s L xs ys) (p xs ys) true)) e ts (list-length (s .«op_count») t)
-      (λ i l. subst (λ (x : ℕ). x < s .horizon) (list-at (s .«op_count») t i l) (q .start i l .inHorizon)) in
+      (λ i l. subst (λ (x : ℕ). x < s .horizon) (list-at (s .«op_count») t i l) (q .start i l .inHorizon .starts)) in
       let b = every-at (s .«op_count») (instancesBelow s) (λ ys. cond (planTest s L ts ys) (p ts ys) true) a us (list-length (s .«op_count») u)
       (λ i l. subst (λ (x : ℕ). x < instancesBelow s) (list-at (s .«op_count») u i l) (instance-below i l)) in
       rw (plan-show s L ts us (plan-local s L ok t u (vec ts) (vec us) (list-at (s .«op_count») t) (list-at (s .«op_count») u) q)) at b

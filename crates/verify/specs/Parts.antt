@@ -55,7 +55,7 @@ pub le-says : (a b : ℤ) → Says (a ≤ℤ b) (leZ a b)
 le-says a b = record { yes = leZ-true a b; no = λ e h. omega (arith, zed, h, leZ-false a b e) }
 
 pub starts-low : {s : Sheet} {L : ℕ} {t : ℕ → ℕ} → InRange s → EachStart s L t → Low (s .«op_count») t
-starts-low ok a i h = omega (arith, a i h .inHorizon, horizon-most ok)
+starts-low ok a i h = omega (arith, a i h .inHorizon .starts, horizon-most ok)
 
 module _ {s : Sheet} {L : ℕ} {t u : ℕ → ℕ} where
   clash-back : {i j : ℕ} → Clash s L t u i j → Clash s L t u j i

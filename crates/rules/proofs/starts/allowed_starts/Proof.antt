@@ -10,7 +10,7 @@ use Rattle.sizes.specs.Sizes.{mostStarts}
 use Rattle.laws.specs.Store.{store-more}
 use Rattle.laws.specs.Says.{Says}
 use Rattle.sheet.specs.declared.ResourceType.{ResourceType}
-use Rattle.rules.specs.Starts.{InHorizon}
+use Rattle.plan.specs.Rules.{InHorizon}
 use Rattle.rules.proofs.starts.allowed_starts.Statement.{statement}
 use Rattle.rules.proofs.starts.allowed_starts.Tie as tie
 
@@ -49,8 +49,8 @@ returns c =
     record {
       start = λ k h. let q = l .inv .2 k (omega arith) in
           record {
-            yes = λ e. record { inHorizon = q .yes e .inside; finishes = omega (arith, d, q .yes e .finishes); holds = tt };
-            no = λ e p. q .no e (record { inside = p .inHorizon; finishes = omega (arith, d, p .finishes) });
+            yes = λ e. record { inHorizon = record { starts = q .yes e .starts; finishes = omega (arith, d, q .yes e .finishes) }; holds = tt };
+            no = λ e p. q .no e (record { starts = p .inHorizon .starts; finishes = omega (arith, d, p .inHorizon .finishes) });
           };
     }
 

@@ -9,13 +9,13 @@ use Rattle.rules.proofs.starts.in_horizon.Statement.{statement}
 use Rattle.rules.proofs.starts.in_horizon.Tie as tie
 
 returns : tie.Need-returns
-returns c = no-says (λ p. omega (arith, c .if1 .taken, p .inside))
+returns c = no-says (λ p. omega (arith, c .if1 .taken, p .starts))
 
 returns-2 : tie.Need-returns-2
 returns-2 c =
     let a = c .before .before .args in
     record {
-      yes = λ e. record { inside = omega (arith, c .before .if1 .left, c .if2 .taken); finishes = omega (arith, c .before .if1 .left, leb-true (a .latency) (a .horizon - a .t) e) };
+      yes = λ e. record { starts = omega (arith, c .before .if1 .left, c .if2 .taken); finishes = omega (arith, c .before .if1 .left, leb-true (a .latency) (a .horizon - a .t) e) };
       no = λ e p. omega (arith, c .before .if1 .left, leb-false (a .latency) (a .horizon - a .t) e, p .finishes);
     }
 
@@ -24,7 +24,7 @@ returns-3 c =
     let a = c .before .before .args in
     record {
       yes = λ e. absurd (omega (arith, c .if2 .left, ltb-true 0 (a .horizon - a .t) e));
-      no = λ e p. omega (arith, ltb-false 0 (a .horizon - a .t) e, p .inside);
+      no = λ e p. omega (arith, ltb-false 0 (a .horizon - a .t) e, p .starts);
     }
 
 pub in-horizon-spec : {M : Type 1} → statement M

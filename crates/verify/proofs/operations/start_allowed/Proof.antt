@@ -8,7 +8,7 @@ use Rattle.verify.proofs.operations.start_allowed.Statement.{statement}
 use Rattle.verify.proofs.operations.start_allowed.Tie as tie
 
 returns : tie.Need-returns
-returns c = no-says (λ a. omega (arith, a .inHorizon, horizon-most (c .before .pre), c .if1 .taken))
+returns c = no-says (λ a. omega (arith, a .inHorizon .starts, horizon-most (c .before .pre), c .if1 .taken))
 
 allowed-starts-requires : tie.Need-allowed-starts-requires
 allowed-starts-requires c κs = search needs
