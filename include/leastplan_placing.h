@@ -33,8 +33,8 @@ typedef struct { uint64_t resource; } leastplan_operation;
 typedef struct { uint64_t from; uint64_t to; int32_t delay; uint64_t distance; } leastplan_edge;
 
 /* A loop sheet: starts are 0 to horizon - 1 (horizon 1 to 128), intervals 1 to cap (cap 1 to 64); then 1 to 8 types,
-   1 to 24 operations and 0 to 96 edges, each numbered from 0. A plan must finish inside the horizon too; a placing
-   table need not. */
+   1 to 24 operations and 0 to 96 edges, each numbered from 0. In a plan start plus latency is at most horizon; a
+   placement need not keep that. */
 typedef struct {
     uint64_t horizon;
     uint64_t cap;

@@ -202,7 +202,7 @@ def late_results():
     """No plan, as results come after the horizon; starts, separations and bounds are as in any longer one."""
     yield 1, 3, [(1, 2)], [0], []
     yield 2, 3, [(1, 3)], [0, 0], [(0, 1, 0, 0), (1, 0, 0, 2)]
-    yield 3, 4, [(2, 32), (0, 4)], [0, 0, 0, 1], [(0, 1, 0, 0), (1, 3, -31, 0), (3, 0, 0, 8)]
+    yield 3, 6, [(2, 32), (0, 4)], [0, 0, 0, 1], [(0, 1, 0, 0), (1, 3, -31, 0), (3, 0, 0, 8)]
 
 
 def pieces():

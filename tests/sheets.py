@@ -18,15 +18,15 @@ def small_sheet(rng):
 
 
 def late_sheet(rng):
-    """A small sheet whose frame ends about when its results arrive: dependences that can be met, and a horizon from just
-    past the last of the earliest starts to just past the last result."""
+    """A small sheet whose frame ends about when its results arrive: its dependences can be met, and the horizon is from
+    just past the last of the earliest starts to just past the last result."""
     while True:
         sheet = small_sheet(rng)
         sheet.types = [(a, rng.choice([0, d, d, rng.randint(1, 6)])) for a, d in sheet.types]
         answer, starts, _ = earliest_starts(sheet, sheet.cap)
         if answer == 0 and max(starts) < 6:
             results = [t + latency(sheet, i) for i, t in enumerate(starts)]
-            sheet.horizon = rng.randint(max(starts) + 1, max(max(starts), *results) + 1)
+            sheet.horizon = rng.randint(max(starts) + 1, max(results) + 1)
             return sheet
 
 

@@ -26,7 +26,7 @@ pub fn resource_of(sheet: Sheet, op: usize) -> usize
     operation.resource
 }
 
-// What an operation's type says; past the array a type is all 0.
+// The type of an operation with its numbers; past the array of types they are 0.
 fn type_of(sheet: Sheet, op: usize) -> ResourceType
     ensures { λ r. ⌜ r ≡ typeOf sheet op ⌝ }
 {

@@ -6,7 +6,8 @@ use crate::type_of;
 use sheet::Sheet;
 use sizes::MOST_STARTS;
 
-// Whether a start is in the horizon and the result is there at its end.
+// Whether an operation of this latency that starts at t starts and finishes inside the horizon. It goes by what is left
+// of the horizon, since start and latency may be any numbers and their sum might overflow.
 fn in_horizon(horizon: usize, latency: usize, t: usize) -> bool
     ensures { λ r. ⌜ Says (InHorizon horizon latency t) r ⌝ }
 {

@@ -8,12 +8,12 @@ use native.Mathlib.Decide.{decLt}
 use native.Mathlib.Numerals.{add-one}
 use lib.Dec.{eqb, ltb, leb}
 use lib.ListN.{length, replicate, length-replicate, length-append, List·getD-eq-default}
-use lib.IntN.{ℤ, pos}
-use borrow.Author.Tests.{eqb-true, ltb-true, lt-ltb, leb-true, le-leb, not-true}
+use lib.IntN.{ℤ}
+use borrow.Author.Tests.{eqb-true, ltb-true, lt-ltb, leb-true, not-true}
 use Rattle.sizes.specs.Sizes.{mostOperations}
 use Rattle.laws.specs.Entry.{vec, ZeroFrom}
 use Rattle.laws.specs.Z.{true-false}
-use Rattle.laws.specs.Count.{bit, tally, tally-none, tally-more, both-true, both-show}
+use Rattle.laws.specs.Count.{bit, tally, tally-none, tally-more, both-true}
 use Rattle.laws.specs.Store.{all-zero}
 use Rattle.dependence.specs.Rules.{Meets}
 use Rattle.sheet.specs.declared.Sheet.{Sheet}

@@ -1,26 +1,26 @@
 -- What the tests of a sheet and of plans say of the rules. Assumes nothing.
-use mathlib.Core.Path.{_≡_, refl, sym, ap, ap₂, subst, _∙_}
+use mathlib.Core.Path.{_≡_, refl, sym, ap, subst, _∙_}
 use mathlib.Core.Bool.{Bool, true, false, cond, not}
 use mathlib.Core.Logic.{_⊎_, inl, inr, ⊎-elim}
-use mathlib.Core.List.{List, [], _∷_}
+use mathlib.Core.List.{List}
 use Prim.Native.Nat.{ℕ, zero, suc, _+_, _%_, _<_, _≤_, max}
 use native.Mathlib.Omega.{arith}
 use native.Mathlib.Decide.{ℕ-discrete}
 use lib.Dec.{eqb, ltb, leb}
-use lib.ListN.{getD, length}
+use lib.ListN.{length}
 use lib.IntN.{ℤ, pos, _+ℤ_}
-use lib.Signed.{leZ, _≤ℤ_}
-use borrow.Author.Tests.{eqb-true, eqb-false, eq-eqb, ne-eqb, lt-ltb, ltb-true, le-leb, leb-true, not-true}
+use lib.Signed.{leZ}
+use borrow.Author.Tests.{eqb-true, eq-eqb, lt-ltb, ltb-true, le-leb, leb-true, not-true}
 use Rattle.laws.specs.Entry.{vec}
 use Rattle.laws.specs.Z.{true-false, leZ-true, true-leZ}
 use Rattle.laws.specs.Count.{both-true, both-show}
 use Rattle.dependence.specs.Graph.{edgeAt, total}
 use Rattle.dependence.specs.Rules.{Meets}
 use Rattle.sheet.specs.declared.Sheet.{Sheet}
-use Rattle.sheet.specs.Sheet.{InRange, typeAt, typeOf, opAt, graphOf}
+use Rattle.sheet.specs.Sheet.{InRange, typeOf, opAt, graphOf}
 use Rattle.sheet.specs.Answer.{sheetAnswer}
 use Rattle.sheet.specs.AnswerLaws.{sheet-inside}
-use Rattle.plan.specs.Rules.{Plan, StartAllowed, InstanceAllowed}
+use Rattle.plan.specs.Rules.{Plan, StartAllowed}
 use Rattle.plan.specs.Order.{Same, Less}
 use Rattle.plan.specs.Answers.{First}
 use Rattle.plan.specs.Local.{plan-local}

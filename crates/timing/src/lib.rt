@@ -1,6 +1,5 @@
 // The timing services on a loop sheet: earliest starts (ASAP), separations (MinDist) and the recurrence bound (RecMII).
-// Each puts its questions in order and asks the dependence part about the sheet's graph. The horizon plays no part in
-// any of them: neither starts nor results need to lie inside it.
+// Each puts its questions in order and asks the dependence part about the sheet's graph.
 ghost use mathlib.Core.Path.{_≡_};
 ghost use Rattle.timing.specs.Answers.{WalkAt, StartsAt, SeparationsAt, RecurrenceAt, withoutLoop, startsRefused};
 use dependence::BadWalk;
