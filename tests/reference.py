@@ -19,7 +19,7 @@ import sys
 
 SHEET_BYTES = 4096
 
-# The table of field ranges; r, i and j go by the sheet.
+# The table of field ranges; r, lo, hi, i and j go by the sheet.
 RANGES = {
     "H": (1, 128),
     "M": (1, 64),
@@ -37,14 +37,102 @@ SIGNED = rb"(0|-?[1-9][0-9]{0,3})"
 
 
 class Sheet:
-    """A sheet as numbers: types are (A, D), operations are type numbers, edges are (i, j, d, b)."""
+    """A sheet as numbers: types are (A, D), operations are (r, lo, hi), edges are (i, j, d, b)."""
 
     def __init__(self, horizon, cap, types, ops, edges):
         self.horizon, self.cap = horizon, cap
         self.types, self.ops, self.edges = list(types), list(ops), list(edges)
 
 
-# ---- reading and writing (questions 1 to 3, 9)
+def plain_sheet(horizon, cap, types, kinds, edges):
+    """The sheet with types (A, D) and operations of these kinds whose windows are the whole horizon."""
+    return Sheet(horizon, cap, types, [(r, 0, horizon - 1) for r in kinds], edges)
+
+
+def with_horizon(sheet, horizon):
+    """The sheet with another horizon and windows that are the whole of it."""
+    return plain_sheet(horizon, sheet.cap, sheet.types, kinds(sheet), sheet.edges)
+
+
+def with_windows(sheet, windows):
+    """The sheet with these windows (lo, hi), one for each operation."""
+    ops = [(r, lo, hi) for r, (lo, hi) in zip(kinds(sheet), windows)]
+    return Sheet(sheet.horizon, sheet.cap, sheet.types, ops, sheet.edges)
+
+
+def kind(sheet, i):
+    """The number of an operation's type."""
+    return sheet.ops[i][0]
+
+
+def kinds(sheet):
+    return [kind(sheet, i) for i in range(len(sheet.ops))]
+
+
+def latency(sheet, i):
+    return sheet.types[kind(sheet, i)][1]
+
+
+def instances_of(sheet, i):
+    return sheet.types[kind(sheet, i)][0]
+
+
+def window(sheet, i):
+    """The first and the last clock at which an operation may start in a plan."""
+    return sheet.ops[i][1:]
+
+
+# ---- questions about the numbers of a sheet (3, 16)
+
+
+def no_question(_):
+    return 0
+
+
+def window_question(operation):
+    """A window whose first clock comes after its last."""
+    _, lo, hi = operation
+    return 16 if lo > hi else 0
+
+
+def line_answer(values, limits, question=no_question):
+    """The numbers of one line: 3 goes before what else the line is asked."""
+    if not all(low <= value <= high for value, (low, high) in zip(values, limits)):
+        return 3
+    return question(values)
+
+
+def type_limits():
+    return [RANGES["A"], RANGES["D"]]
+
+
+def op_limits(horizon, type_count):
+    return [(0, type_count - 1), (0, horizon - 1), (0, horizon - 1)]
+
+
+def edge_limits(op_count):
+    return [(0, op_count - 1), (0, op_count - 1), RANGES["d"], RANGES["b"]]
+
+
+def line_answers(sheet):
+    """The answer to each line of a sheet that is handed in as numbers, from the top."""
+    count, n = len(sheet.types), len(sheet.ops)
+    yield line_answer([sheet.horizon], [RANGES["H"]])
+    yield line_answer([sheet.cap], [RANGES["M"]])
+    yield line_answer([count], [RANGES["R"]])
+    yield from (line_answer(t, type_limits()) for t in sheet.types)
+    yield line_answer([n], [RANGES["N"]])
+    yield from (line_answer(o, op_limits(sheet.horizon, count), window_question) for o in sheet.ops)
+    yield line_answer([len(sheet.edges)], [RANGES["E"]])
+    yield from (line_answer(e, edge_limits(n)) for e in sheet.edges)
+
+
+def sheet_answer(sheet):
+    """The first refusal among the lines, or 0."""
+    return next((answer for answer in line_answers(sheet) if answer), 0)
+
+
+# ---- reading and writing (questions 1 to 3, 9, 16)
 
 
 class Refused(Exception):
@@ -56,23 +144,23 @@ class Refused(Exception):
 
 
 class Lines:
-    """The lines of a sheet from the top: 2 before 3 within a line."""
+    """The lines of a sheet from the top: 2 before 3 within a line, and what else the line is asked after that."""
 
     def __init__(self, data):
         self.data, self.at = data, 0
 
-    def take(self, key, fields, limits):
+    def take(self, key, fields, limits, question=no_question):
         end = self.data.find(b"\n", self.at)
         if end < 0:
             raise Refused(2)
-        numbers = [SIGNED if f == "d" else PLAIN for f in fields]
+        numbers = [SIGNED if f == "d" else PLAIN for f in fields.split()]
         found = re.fullmatch(key + b"=" + b",".join(numbers), self.data[self.at : end], re.DOTALL)
         if not found:
             raise Refused(2)
-        values = [int(v) for v in found.groups()]
-        for value, (low, high) in zip(values, limits):
-            if not low <= value <= high:
-                raise Refused(3)
+        values = tuple(int(v) for v in found.groups())
+        answer = line_answer(values, limits, question)
+        if answer:
+            raise Refused(answer)
         self.at = end + 1
         return values
 
@@ -84,12 +172,11 @@ def read_lines(lines):
     horizon = lines.one(b"horizon", "H")
     cap = lines.one(b"cap", "M")
     count = lines.one(b"types", "R")
-    types = [tuple(lines.take(b"type", "AD", [RANGES["A"], RANGES["D"]])) for _ in range(count)]
+    types = [lines.take(b"type", "A D", type_limits()) for _ in range(count)]
     n = lines.one(b"ops", "N")
-    ops = [lines.take(b"op", "r", [(0, count - 1)])[0] for _ in range(n)]
+    ops = [lines.take(b"op", "r lo hi", op_limits(horizon, count), window_question) for _ in range(n)]
     e = lines.one(b"edges", "E")
-    limits = [(0, n - 1), (0, n - 1), RANGES["d"], RANGES["b"]]
-    edges = [tuple(lines.take(b"edge", "ijdb", limits)) for _ in range(e)]
+    edges = [lines.take(b"edge", "i j d b", edge_limits(n)) for _ in range(e)]
     return Sheet(horizon, cap, types, ops, edges)
 
 
@@ -108,7 +195,7 @@ def read_to(data):
 
 
 def read_sheet(data):
-    """(0, sheet), or the refusal 1, 2 or 3 and None."""
+    """(0, sheet), or the refusal 1, 2, 3 or 16 and None."""
     return read_to(data)[:2]
 
 
@@ -121,13 +208,15 @@ def lines_of(rows):
     return "".join(row + "\n" for row in rows).encode()
 
 
+def list_rows(key, lists):
+    return [key + "=" + ",".join("%d" % v for v in numbers) for numbers in lists]
+
+
 def sheet_rows(sheet):
-    rows = ["horizon=%d" % sheet.horizon, "cap=%d" % sheet.cap, "types=%d" % len(sheet.types)]
-    rows += ["type=%d,%d" % t for t in sheet.types]
-    rows += ["ops=%d" % len(sheet.ops)]
-    rows += ["op=%d" % r for r in sheet.ops]
-    rows += ["edges=%d" % len(sheet.edges)]
-    return rows + ["edge=%d,%d,%d,%d" % e for e in sheet.edges]
+    rows = ["horizon=%d" % sheet.horizon, "cap=%d" % sheet.cap]
+    for key, lists in (("type", sheet.types), ("op", sheet.ops), ("edge", sheet.edges)):
+        rows += ["%ss=%d" % (key, len(lists))] + list_rows(key, lists)
+    return rows
 
 
 def sheet_text(sheet):
@@ -135,14 +224,6 @@ def sheet_text(sheet):
 
 
 # ---- rules of a plan
-
-
-def latency(sheet, i):
-    return sheet.types[sheet.ops[i]][1]
-
-
-def instances_of(sheet, i):
-    return sheet.types[sheet.ops[i]][0]
 
 
 def total(sheet, interval, edge):
@@ -156,7 +237,7 @@ def dependence_kept(sheet, interval, edge, starts):
 
 
 def rivals(sheet, i, j):
-    return i != j and sheet.ops[i] == sheet.ops[j] and instances_of(sheet, i) != 0
+    return i != j and kind(sheet, i) == kind(sheet, j) and instances_of(sheet, i) != 0
 
 
 def instance_range(sheet, i):
@@ -164,8 +245,9 @@ def instance_range(sheet, i):
 
 
 def start_range(sheet, i):
-    """Starts inside the horizon (the frame), with the result not lost after its end."""
-    return [t for t in range(sheet.horizon) if t + latency(sheet, i) <= sheet.horizon]
+    """Starts inside the horizon (the frame), with the result not lost after its end, from lo to hi of the window."""
+    lo, hi = window(sheet, i)
+    return [t for t in range(sheet.horizon) if t + latency(sheet, i) <= sheet.horizon and lo <= t <= hi]
 
 
 def is_plan(sheet, interval, starts, units):
@@ -312,9 +394,12 @@ def separations(sheet, interval):
 
 
 def earliest_starts(sheet, interval):
-    """(answer, starts, loop): a start is 0, or what the walks that end there ask if that is more."""
+    """(answer, starts, loop): a start is its own lo, or what the walks that end there ask if that is more, each from
+    the lo of the operation where it begins."""
     answer, table, loop = separations(sheet, interval)
-    return answer, [max(0, *column) for column in zip(*table)], loop
+    first = [window(sheet, i)[0] for i in range(len(sheet.ops))]
+    asked = [[t + cell for t, cell in zip(first, column)] for column in zip(*table)]
+    return answer, [max(t, *walks) for t, walks in zip(first, asked)], loop
 
 
 def plan_at(sheet, interval):
@@ -344,9 +429,9 @@ def recurrence_bound(sheet):
 
 def resource_bound(sheet):
     bound = 1
-    for r, (a, _) in enumerate(sheet.types):
+    for r, (a, *_) in enumerate(sheet.types):
         if a != 0:
-            bound = max(bound, -(-sheet.ops.count(r) // a))
+            bound = max(bound, -(-kinds(sheet).count(r) // a))
     return bound
 
 
