@@ -4,13 +4,13 @@ Each encoding asks for the starts alone: instances exist exactly when no slot ho
 limited type than it has instances.
 """
 
-from reference import latency, total
+from reference import kinds, latency, total, window
 
 
 def limited_groups(sheet):
     """(instances, operations) of each limited type that has more operations than instances."""
     for r, (a, _) in enumerate(sheet.types):
-        members = [i for i, q in enumerate(sheet.ops) if q == r]
+        members = [i for i, q in enumerate(kinds(sheet)) if q == r]
         if a != 0 and len(members) > a:
             yield a, members
 
@@ -20,9 +20,15 @@ def differences(sheet, interval):
     return [(e[0], e[1], total(sheet, interval, e)) for e in sheet.edges]
 
 
+def first_start(sheet, i):
+    """The first start in the window of i."""
+    return window(sheet, i)[0]
+
+
 def last_start(sheet, i):
-    """The last start inside the horizon whose result is there at its end; below 0 without one."""
-    return sheet.horizon - max(1, latency(sheet, i))
+    """The last start in the window of i and in the horizon whose result is there at its end; below the first start
+    where there is none."""
+    return min(window(sheet, i)[1], sheet.horizon - max(1, latency(sheet, i)))
 
 
 # ---- CNF: order encoding of starts, a literal for each start and slot, sequential counters
@@ -72,6 +78,7 @@ def cnf(sheet, interval):
     for i, row in enumerate(by):
         for a, b in zip(row, row[1:]):
             out.add(-a, b)
+        implied(out, at_most_at(i, first_start(sheet, i) - 1), False)
         implied(out, True, at_most_at(i, last_start(sheet, i)))
     for i, j, w in differences(sheet, interval):
         for t in range(sheet.horizon):
@@ -110,7 +117,8 @@ def smtlib(sheet, interval, ask=True):
     rows = ["(set-logic QF_LIA)"]
     for i in range(len(sheet.ops)):
         last = smt_number(last_start(sheet, i))
-        rows += ["(declare-const t%d Int)" % i, "(assert (and (<= 0 t%d) (<= t%d %s)))" % (i, i, last)]
+        rows.append("(declare-const t%d Int)" % i)
+        rows.append("(assert (and (<= %d t%d) (<= t%d %s)))" % (first_start(sheet, i), i, i, last))
     for i, j, w in differences(sheet, interval):
         rows.append("(assert (<= (+ t%d %s) t%d))" % (i, smt_number(w), j))
     for a, members in limited_groups(sheet):
@@ -152,7 +160,8 @@ def lp(sheet, interval):
     for a, members in limited_groups(sheet):
         for s in range(interval):
             rows.append(" + ".join("x%d_%d" % (i, s) for i in members) + " <= %d" % a)
-    bounds += ["0 <= t%d <= %d" % (i, last_start(sheet, i)) for i in range(len(sheet.ops))]
+    for i in range(len(sheet.ops)):
+        bounds.append("%d <= t%d <= %d" % (first_start(sheet, i), i, last_start(sheet, i)))
     general = ["t%d" % i for i in range(len(sheet.ops))] + ["k%d" % i for i in sorted(limited)]
     parts = ["Minimize", " obj: 0 t0", "Subject To"] + [" c%d: %s" % c for c in enumerate(rows)]
     parts += ["Bounds"] + [" " + b for b in bounds] + ["Generals"] + [" " + g for g in general]
@@ -168,6 +177,7 @@ def dzn(sheet, interval):
     groups = list(limited_groups(sheet))
     rows = [
         "n = %d; horizon = %d; interval = %d;" % (len(sheet.ops), sheet.horizon, interval),
+        "first = %s;" % [first_start(sheet, i) for i in range(len(sheet.ops))],
         "last = %s;" % [last_start(sheet, i) for i in range(len(sheet.ops))],
         "e = %d;" % len(edges),
         "source = %s;" % [i + 1 for i, _, _ in edges],

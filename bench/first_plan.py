@@ -44,7 +44,7 @@ def first_starts(sheet, interval):
     if interval < ref.resource_bound(sheet) or not question.holds([]):
         return []
     for i in range(len(sheet.ops)):
-        low, high = 0, sheet.horizon - 1
+        low, high = encodings.first_start(sheet, i), encodings.last_start(sheet, i)
         while low < high:
             middle = (low + high) // 2
             if question.holds(question.at_most(i, middle)):
@@ -57,7 +57,7 @@ def first_starts(sheet, interval):
 
 
 def starts_exist(sheet, interval):
-    """Have the dependences alone some starts? Relaxing from 0 comes to rest within N rounds if so."""
+    """Have the dependences alone some starts, windows aside? Relaxing from 0 comes to rest within N rounds if so."""
     starts = [0] * len(sheet.ops)
     for _ in range(len(sheet.ops) + 1):
         before = list(starts)

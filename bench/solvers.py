@@ -15,10 +15,10 @@ import tempfile
 
 import encodings_of_plans as encodings
 import measure  # finds tests/ too
-from reference import Sheet
+from reference import plain_sheet
 
 HERE = os.path.dirname(os.path.abspath(__file__))
-NOTHING = Sheet(1, 1, [(1, 1)], [0], [])
+NOTHING = plain_sheet(1, 1, [(1, 1)], [0], [])
 LIMIT = 10
 RUNS = 9
 QUICK = 0.3  # seconds; a question that takes longer is asked once
