@@ -23,7 +23,24 @@ fn now() -> i64 {
 
 type Domain = [[bool; STARTS]; OPS];
 
-struct Sheet { horizon: usize, cap: usize, types: Vec<(usize, i32)>, ops: Vec<usize>, edges: Vec<(usize, usize, i32, i32)> }
+struct Op { kind: usize, lo: usize, hi: usize }
+
+struct Sheet {
+    horizon: usize,
+    cap: usize,
+    types: Vec<(usize, i32)>,
+    ops: Vec<Op>,
+    edges: Vec<(usize, usize, i32, i32)>,
+}
+
+impl Sheet {
+    fn latency(&self, i: usize) -> i32 { self.types[self.ops[i].kind].1 }
+
+    // In the window of i, with the result there at the end of the horizon.
+    fn start_allowed(&self, i: usize, t: usize) -> bool {
+        self.ops[i].lo <= t && t <= self.ops[i].hi && t + self.latency(i) as usize <= self.horizon
+    }
+}
 
 struct Task { n: usize, l: usize, instances: Vec<usize>, count: Vec<usize>, resource: Vec<usize>, edges: Vec<(usize, usize, i32)>, lag: [[i32; OPS]; OPS], near: [[bool; OPS]; OPS] }
 
@@ -38,7 +55,7 @@ fn parse(text: &str) -> Sheet {
             "horizon" => s.horizon = n[0] as usize,
             "cap" => s.cap = n[0] as usize,
             "type" => s.types.push((n[0] as usize, n[1])),
-            "op" => s.ops.push(n[0] as usize),
+            "op" => s.ops.push(Op { kind: n[0] as usize, lo: n[1] as usize, hi: n[2] as usize }),
             "edge" => s.edges.push((n[0] as usize, n[1] as usize, n[2], n[3])),
             _ => {}
         }
@@ -50,11 +67,12 @@ fn parse(text: &str) -> Sheet {
 fn task(s: &Sheet, l: usize) -> Option<Task> {
     let n = s.ops.len();
     let mut count = vec![0; s.types.len()];
-    for &r in &s.ops { count[r] += 1; }
+    let resource: Vec<usize> = s.ops.iter().map(|o| o.kind).collect();
+    for &r in &resource { count[r] += 1; }
     let mut lag = [[NO_WALK; OPS]; OPS];
     let mut edges = vec![];
     for &(i, j, d, b) in &s.edges {
-        let total = s.types[s.ops[i]].1 + d - b * l as i32;
+        let total = s.latency(i) + d - b * l as i32;
         edges.push((i, j, total));
         lag[i][j] = lag[i][j].max(total);
     }
@@ -66,7 +84,7 @@ fn task(s: &Sheet, l: usize) -> Option<Task> {
     let mut near = [[false; OPS]; OPS];
     for i in 0..n { for j in 0..n { near[i][j] = i != j && lag[i][j] != NO_WALK && lag[j][i] != NO_WALK && 1 - lag[i][j] - lag[j][i] < l as i32; } }
     for &(i, j, _) in &edges { if i != j { near[i][j] = true; near[j][i] = true; } }
-    Some(Task { n, l, instances: s.types.iter().map(|t| t.0).collect(), count, resource: s.ops.clone(), edges, lag, near })
+    Some(Task { n, l, instances: s.types.iter().map(|t| t.0).collect(), count, resource, edges, lag, near })
 }
 
 fn least(row: &[bool; STARTS]) -> usize { row.iter().position(|&b| b).unwrap_or(STARTS) }
@@ -170,10 +188,7 @@ fn search(p: &Task, from: &Domain, dirty: [bool; OPS], blame: [u64; OPS]) -> Fou
 
 fn first_plan(p: &Task, sheet: &Sheet) -> Found {
     let mut d = [[false; STARTS]; OPS];
-    for i in 0..p.n {
-        let latency = sheet.types[sheet.ops[i]].1 as usize;
-        for t in 0..sheet.horizon { d[i][t] = t + latency <= sheet.horizon; }
-    }
+    for i in 0..p.n { for t in 0..sheet.horizon { d[i][t] = sheet.start_allowed(i, t); } }
     let mut f = search(p, &d, [true; OPS], [1; OPS]);
     let Some(mut x) = f.plan else { return f };
     for i in 0..p.n {
