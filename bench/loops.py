@@ -9,6 +9,9 @@ motor        transforms, controllers and filters of motor control, with integrat
 deadlines    loops whose operations must follow others within a time, by edges with a negative delay
 packing      as many operations of each type as its instances hold at the wanted interval, starts confined
 recurrences  many backedges of distance 1 to 3
+windows      motor loops whose ports settle late and whose outputs have a last clock
+
+An operation may start in the whole horizon, but for those of windows.
 
 As a program:  loops.py FAMILY SEED   prints one sheet.
 """
@@ -19,35 +22,41 @@ import sys
 
 sys.path.insert(0, os.path.join(os.path.dirname(os.path.abspath(__file__)), "..", "tests"))
 
-from reference import Sheet, resource_bound, sheet_text
+from reference import kind, latency, plain_sheet, resource_bound, sheet_text, with_horizon, with_windows
 
 OPERATIONS = 24
 MOST_EDGES = 96
 
 
-def earliest(latencies, edges):
-    """Starts by the forward edges alone; every edge leads to a greater operation number."""
-    starts = [0] * len(latencies)
+def earliest(floor, latencies, edges):
+    """Starts over a floor by the forward edges alone; every edge leads to a greater operation number."""
+    starts = list(floor)
     for i, j, d, _ in sorted(edges):
         starts[j] = max(starts[j], starts[i] + latencies[i] + d)
     return starts
 
 
+def forward_edges(sheet):
+    return [e for e in sheet.edges if e[0] < e[1] and e[3] == 0]
+
+
+def forward_starts(sheet, floor):
+    latencies = [latency(sheet, i) for i in range(len(sheet.ops))]
+    return earliest(floor, latencies, forward_edges(sheet))
+
+
 def span(sheet):
     """Clocks from the first start to the last result along the forward edges."""
-    latencies = [sheet.types[r][1] for r in sheet.ops]
-    forward = [e for e in sheet.edges if e[0] < e[1] and e[3] == 0]
-    starts = earliest(latencies, forward)
-    return max(t + d for t, d in zip(starts, latencies))
+    starts = forward_starts(sheet, [0] * len(sheet.ops))
+    return max(t + latency(sheet, i) for i, t in enumerate(starts))
 
 
-def fitted(rng, types, ops, edges, room):
+def fitted(rng, types, kinds, edges, room):
     """The sheet with a horizon that its span and its fullest type need and some room; cap past the resource bound."""
-    sheet = Sheet(1, 1, types, ops, edges[:MOST_EDGES])
+    sheet = plain_sheet(1, 1, types, kinds, edges[:MOST_EDGES])
     bound = resource_bound(sheet)
-    sheet.horizon = min(128, max(span(sheet), bound) + rng.randint(0, room))
     sheet.cap = min(64, bound + 16)
-    return sheet
+    return with_horizon(sheet, min(128, max(span(sheet), bound) + rng.randint(0, room)))
 
 
 def layers_of(rng, forward, backward):
@@ -55,7 +64,7 @@ def layers_of(rng, forward, backward):
     depth = [i * layers // OPERATIONS for i in range(OPERATIONS)]
     pairs = [(i, j) for i in range(OPERATIONS) for j in range(OPERATIONS)]
     edges = [(i, j, 0, 0) for i, j in pairs if depth[i] < depth[j] and rng.random() < forward]
-    starts = earliest([1] * OPERATIONS, edges)
+    starts = earliest([0] * OPERATIONS, [1] * OPERATIONS, edges)
     edges += [(i, j, 0, 1) for i, j in pairs if starts[i] > starts[j] and rng.random() < backward]
     return fitted(rng, [(2, 1)], [0] * OPERATIONS, edges, rng.choice([0, 4, 12]))
 
@@ -104,7 +113,8 @@ class Loop:
         return out
 
 
-def motor(rng):
+def motor_loop(rng):
+    """The sheet and the operations that give a signal."""
     loop = Loop()
     signals = [loop.op(PORT) for _ in range(rng.randint(1, 3))]
     while len(loop.ops) < OPERATIONS - 7:
@@ -122,7 +132,11 @@ def motor(rng):
         i, j = rng.choice(signals), rng.choice(signals)
         loop.back(max(i, j), min(i, j), rng.choice([1, 2, 2, 3]))
     types = [(rng.choice([1, 1, 2, 3]), rng.choice([2, 3, 4])), (rng.choice([1, 1, 2]), 1), (1, rng.choice([1, 2]))]
-    sheet = fitted(rng, types, loop.ops, loop.edges, rng.choice([0, 4, 16]))
+    return fitted(rng, types, loop.ops, loop.edges, rng.choice([0, 4, 16])), signals
+
+
+def motor(rng):
+    sheet, signals = motor_loop(rng)
     longest = span(sheet)
     for last in rng.sample(signals, 2):
         sheet.edges.append((last, 0, max(-64, -longest - rng.randint(0, 4)), 0))
@@ -178,7 +192,37 @@ def recurrences(rng):
     return fitted(rng, types, ops, edges, rng.choice([4, 16]))
 
 
-FAMILIES = {f.__name__: f for f in (layered, dense, motor, deadlines, packing, recurrences)}
+MOST_LATE = 8  # clocks
+
+
+def settling(rng, sheet):
+    """For each operation the first clock: some ports settle only after what they wait for is there."""
+    first = [0] * len(sheet.ops)
+    starts = forward_starts(sheet, first)
+    for i, t in enumerate(starts):
+        if kind(sheet, i) == PORT and rng.random() < 0.5:
+            first[i] = t + rng.randint(1, MOST_LATE)
+    return first
+
+
+def last_clocks(rng, sheet, first):
+    """For each operation the last clock: an output, for which no other waits, has one soon after its earliest start."""
+    last = [sheet.horizon - 1] * len(sheet.ops)
+    awaited = {i for i, *_ in forward_edges(sheet)}
+    for i, t in enumerate(forward_starts(sheet, first)):
+        if i not in awaited:
+            last[i] = min(last[i], t + rng.randint(0, resource_bound(sheet)))
+    return last
+
+
+def windows(rng):
+    sheet, _ = motor_loop(rng)
+    first = settling(rng, sheet)
+    sheet = with_horizon(sheet, min(128, sheet.horizon + MOST_LATE))
+    return with_windows(sheet, list(zip(first, last_clocks(rng, sheet, first))))
+
+
+FAMILIES = {f.__name__: f for f in (layered, dense, motor, deadlines, packing, recurrences, windows)}
 
 
 def sheet_of(family, seed):
