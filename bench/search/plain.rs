@@ -142,7 +142,7 @@ fn narrow(p: &Task, d: &mut Domain, mut dirty: [bool; OPS]) -> bool {
         }
         for r in 0..p.instances.len() { if p.instances[r] > 0 && p.count[r] > p.instances[r] && !saturate(p, d, r, &mut dirty) { return false; } }
         if (0..p.n).any(|i| dirty[i] && least(&d[i]) == STARTS) { return false; }
-        if !dirty.contains(&true) { return true; }
+        if !dirty[..p.n].contains(&true) { return true; }
     }
 }
 
@@ -189,6 +189,7 @@ fn search(p: &Task, from: &Domain, dirty: [bool; OPS], blame: [u64; OPS]) -> Fou
 fn first_plan(p: &Task, sheet: &Sheet) -> Found {
     let mut d = [[false; STARTS]; OPS];
     for i in 0..p.n { for t in 0..sheet.horizon { d[i][t] = sheet.start_allowed(i, t); } }
+    if (0..p.n).any(|i| least(&d[i]) == STARTS) { return Found { plan: None, blame: [1; OPS], nodes: 0 }; }
     let mut f = search(p, &d, [true; OPS], [1; OPS]);
     let Some(mut x) = f.plan else { return f };
     for i in 0..p.n {
