@@ -1,20 +1,25 @@
 """Random loop sheets and damaged sheets for the tests, from a seed."""
 
 import random
+import re
 
-from reference import Sheet, earliest_starts, latency, sheet_text
+from reference import earliest_starts, latency, plain_sheet, sheet_text, with_horizon, with_windows
 
 # Bytes that a damaged sheet may get: every class of the format, and others.
 ODD_BYTES = b"0123456789-,=\n\r +.\x00\x7f\x80\xff" + b"horizncaptyesdg"
 
+# Spellings and values that a number of a damaged sheet may get.
+ODD_NUMBERS = [b"-0", b"00", b"+1", b"-1", b"", b"9999", b"10000", b"-9999", b"-10000"]
+ODD_NUMBERS += [b"-65", b"65", b"8", b"9", b"33", b"129", b"0"]
+
 
 def small_sheet(rng):
-    """A sheet small enough for enumeration: up to 5 operations, horizon up to 6."""
+    """A sheet small enough for enumeration: up to 5 operations, horizon up to 6, windows that are all of it."""
     n = rng.randint(1, 5)
     types = [(rng.choice([0, 1, 1, 1, 2, 3]), rng.choice([0, 1, 1, 2, 3])) for _ in range(rng.randint(1, 3))]
-    ops = [rng.randrange(len(types)) for _ in range(n)]
+    kinds = [rng.randrange(len(types)) for _ in range(n)]
     edges = [small_edge(rng, n) for _ in range(rng.choice([0, 1, 2, 3, 4, 5, 6, 8]))]
-    return Sheet(rng.randint(1, 6), rng.randint(1, 6), types, ops, edges)
+    return plain_sheet(rng.randint(1, 6), rng.randint(1, 6), types, kinds, edges)
 
 
 def late_sheet(rng):
@@ -26,12 +31,41 @@ def late_sheet(rng):
         answer, starts, _ = earliest_starts(sheet, sheet.cap)
         if answer == 0 and max(starts) < 6:
             results = [t + latency(sheet, i) for i, t in enumerate(starts)]
-            sheet.horizon = rng.randint(max(starts) + 1, max(results) + 1)
-            return sheet
+            return with_horizon(sheet, rng.randint(max(starts) + 1, max(results) + 1))
+
+
+def narrow_sheet(rng):
+    """A small sheet with any windows: all of the horizon, a single clock, or from one clock to another."""
+    sheet = small_sheet(rng)
+    return with_windows(sheet, [any_window(rng, sheet.horizon) for _ in sheet.ops])
+
+
+def any_window(rng, horizon):
+    first, last = sorted(rng.randrange(horizon) for _ in range(2))
+    return rng.choice([(0, horizon - 1), (first, first), (first, last), (first, last)])
+
+
+def windowed_sheet(rng):
+    """A small sheet whose windows begin or end about at the earliest starts: lo about where the dependences alone put
+    the operation, and hi about where it comes by them and every lo."""
+    while True:
+        sheet = small_sheet(rng)
+        answer, starts, _ = earliest_starts(sheet, sheet.cap)
+        if answer == 0 and max(starts) < 6:
+            sheet = with_horizon(sheet, rng.randint(max(starts) + 1, 8))
+            last = sheet.horizon - 1
+            first = [rng.choice([0, beside(rng, t, last)]) for t in starts]
+            starts = earliest_starts(with_windows(sheet, [(lo, last) for lo in first]), sheet.cap)[1]
+            ends = [rng.choice([last, max(lo, beside(rng, t, last))]) for lo, t in zip(first, starts)]
+            return with_windows(sheet, zip(first, ends))
+
+
+def beside(rng, t, last):
+    return min(max(t + rng.randint(-1, 1), 0), last)
 
 
 def any_small_sheet(rng):
-    return rng.choice([small_sheet, small_sheet, late_sheet])(rng)
+    return rng.choice([small_sheet, late_sheet, narrow_sheet, windowed_sheet])(rng)
 
 
 def small_edge(rng, n):
@@ -48,9 +82,10 @@ def wide_sheet(rng):
     """Any in-range sheet, the ends of each range more often than by chance; for readers, not for plans."""
     n, e = spread(rng, 1, 24), spread(rng, 0, 96)
     types = [(spread(rng, 0, 8), spread(rng, 0, 32)) for _ in range(spread(rng, 1, 8))]
-    ops = [rng.randrange(len(types)) for _ in range(n)]
+    kinds = [rng.randrange(len(types)) for _ in range(n)]
     edges = [(rng.randrange(n), rng.randrange(n), spread(rng, -64, 64), spread(rng, 0, 8)) for _ in range(e)]
-    return Sheet(spread(rng, 1, 128), spread(rng, 1, 64), types, ops, edges)
+    sheet = plain_sheet(spread(rng, 1, 128), spread(rng, 1, 64), types, kinds, edges)
+    return with_windows(sheet, [sorted(spread(rng, 0, sheet.horizon - 1) for _ in range(2)) for _ in kinds])
 
 
 def spread(rng, low, high):
@@ -58,10 +93,11 @@ def spread(rng, low, high):
 
 
 def damaged(rng, text):
-    """The text with one to three edits: a byte changed, put in or taken out, a line moved, a number replaced."""
+    """The text with one to three edits: a byte changed, put in or taken out, a line moved, numbers replaced."""
+    edits = [changed_byte, added_byte, lost_byte, moved_line, other_number, other_window, other_window, cut_short]
     data = bytearray(text)
     for _ in range(rng.choice([1, 1, 1, 2, 3])):
-        data = rng.choice([changed_byte, added_byte, lost_byte, moved_line, other_number, cut_short])(rng, data)
+        data = rng.choice(edits)(rng, data)
     return bytes(data)
 
 
@@ -100,8 +136,21 @@ def other_number(rng, data):
     end = at
     while end < len(data) and data[end : end + 1] not in (b",", b"\n"):
         end += 1
-    odd = [b"-0", b"00", b"+1", b"-1", b"", b"9999", b"10000", b"-9999", b"-10000", b"-65", b"65", b"8", b"9", b"33", b"129", b"0"]
-    return data[:at] + rng.choice(odd) + data[end:]
+    return data[:at] + rng.choice(ODD_NUMBERS) + data[end:]
+
+
+def other_window(rng, data):
+    """One operation gets another window: upside down, at the horizon or past it, or more than one of these; sometimes
+    the number of its type is out of range or malformed besides."""
+    horizon = re.search(rb"horizon=([1-9][0-9]{0,3})\n", data)
+    lines = list(re.finditer(rb"^op=([^,\n]*)[^\n]*", data, re.MULTILINE))
+    if not horizon or not lines:
+        return data
+    line, past = rng.choice(lines), int(horizon[1])
+    first, last = sorted(rng.randrange(past) for _ in range(2))
+    ends = [(last, first), (last, first), (past - 1, 0), (past, first), (first, past), (past, past), (past + 1, past)]
+    kind = rng.choice([line[1], line[1], line[1], b"8", b"00"])
+    return data[: line.start()] + b"op=%s,%d,%d" % (kind, *rng.choice(ends)) + data[line.end() :]
 
 
 def cut_short(rng, data):
