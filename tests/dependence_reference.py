@@ -19,7 +19,7 @@ import os
 import random
 import sys
 
-from reference import Sheet, resource_bound, sheet_text
+from reference import latency, plain_sheet, resource_bound, sheet_text, window, with_windows
 
 INTERVALS = (0, 1, 2, 3, 4, 5, 6, 64, 65)
 GREATEST_CAP = 64
@@ -30,10 +30,10 @@ SEED = 20020
 
 
 class Graph:
-    """Latencies of the operations, and edges (from, to, delay, distance)."""
+    """Latencies of the operations, the clocks before which they cannot start, and edges (from, to, delay, distance)."""
 
-    def __init__(self, latency, edges):
-        self.latency, self.edges = latency, edges
+    def __init__(self, latency, floor, edges):
+        self.latency, self.floor, self.edges = latency, floor, edges
         self.n = len(latency)
 
     def total(self, k, interval):
@@ -123,18 +123,23 @@ def at_interval(sheet, graph, interval):
     if loop is not None:
         return out + ["walk=" + numbers((5,) + loop), "earliest=" + numbers((5,) + loop)]
     n = range(graph.n)
-    out += ["walk=0", "earliest=" + numbers([0] + graph.earliest([0 for _ in n], interval))]
+    out += ["walk=0", "earliest=" + numbers([0] + graph.earliest(graph.floor, interval))]
     out += ["separation=" + numbers(graph.separation(i, j, interval) for j in n) for i in n]
     out += ["lag=" + numbers(graph.lag(i, interval)) for i in n]
     return out
 
 
+def graph_of(sheet):
+    n = range(len(sheet.ops))
+    return Graph([latency(sheet, i) for i in n], [window(sheet, i)[0] for i in n], sheet.edges)
+
+
 def expected(answer, sheet):
     """The lines for one sheet; the answer is that of reading it. A refused sheet (None) is all 0: out of range."""
     if sheet is None:
-        graph, bounds = Graph([], []), [(3, 0), (3, 0)]
+        graph, bounds = Graph([], [], []), [(3, 0), (3, 0)]
     else:
-        graph = Graph([sheet.types[r][1] for r in sheet.ops], sheet.edges)
+        graph = graph_of(sheet)
         bounds = [graph.bound(sheet.cap), (0, resource_bound(sheet))]
     out = [f"answer={answer}", "recurrence=" + numbers(bounds[0]), "resource=" + numbers(bounds[1])]
     for interval in INTERVALS:
@@ -172,7 +177,7 @@ def random_sheets(pick, count):
     for _ in range(count):
         n = pick.randint(1, 4)
         types = [(pick.randint(0, 2), pick.choice((0, 1, 1, 2, 3))) for _ in range(pick.randint(1, 3))]
-        ops = [pick.randrange(len(types)) for _ in range(n)]
+        kinds = [pick.randrange(len(types)) for _ in range(n)]
         edges = []
         for _ in range(pick.randint(0, 6)):
             i, j = pick.randrange(n), pick.randrange(n)
@@ -183,18 +188,37 @@ def random_sheets(pick, count):
             if j <= i and pick.random() < 0.7:
                 b = max(b, 1)
             edges.append((i, j, d, b))
-        yield pick.randint(1, 128), pick.choice((1, 2, 3, 4, 5, GREATEST_CAP)), types, ops, edges
+        yield pick.randint(1, 128), pick.choice((1, 2, 3, 4, 5, GREATEST_CAP)), types, kinds, edges
+
+
+def changed(old, new, horizon=1):
+    """The text of a sheet with one operation and one edge, in which a line is another."""
+    text = sheet_text(plain_sheet(horizon, 1, [(0, 0)], [0], [(0, 0, 0, 0)])).decode()
+    assert text.count(old) == 1
+    return text.replace(old, new)
+
+
+def without_edges(text):
+    return text[: text.index("edges=")] + "edges=0\n"
 
 
 REFUSED = [
     (2, ""),
     (2, "horizon=1\n"),
-    (2, "horizon=01\ncap=1\ntypes=1\ntype=0,0\nops=1\nop=0\nedges=0\n"),
-    (3, "horizon=129\ncap=1\ntypes=1\ntype=0,0\nops=1\nop=0\nedges=0\n"),
-    (3, "horizon=1\ncap=1\ntypes=1\ntype=0,0\nops=1\nop=0\nedges=1\nedge=0,0,-65,0\n"),
-    (3, "horizon=1\ncap=1\ntypes=1\ntype=0,0\nops=1\nop=0\nedges=1\nedge=0,1,0,0\n"),
-    (2, "horizon=1\ncap=1\ntypes=1\ntype=0,0\nops=1\nop=0\nedges=1\nedge=0,0,-0,0\n"),
+    (2, without_edges(changed("horizon=1", "horizon=01"))),
+    (3, without_edges(changed("horizon=1", "horizon=129"))),
+    (3, changed("edge=0,0,0,0", "edge=0,0,-65,0")),
+    (3, changed("edge=0,0,0,0", "edge=0,1,0,0")),
+    (2, changed("edge=0,0,0,0", "edge=0,0,-0,0")),
     (1, "horizon=1\n" + "x" * 4087),
+]
+
+REFUSED_WINDOWS = [
+    (16, changed("op=0,0,8", "op=0,1,0", 9)),
+    (16, changed("op=0,0,8", "op=0,8,7", 9)),
+    (3, changed("op=0,0,8", "op=0,9,8", 9)),
+    (3, changed("op=0,0,8", "op=0,0,9", 9)),
+    (3, changed("op=0,0,8", "op=1,1,0", 9)),
 ]
 
 
@@ -205,17 +229,46 @@ def late_results():
     yield 3, 6, [(2, 32), (0, 4)], [0, 0, 0, 1], [(0, 1, 0, 0), (1, 3, -31, 0), (3, 0, 0, 8)]
 
 
+def floors():
+    """(fields, windows): starts that begin at clocks above 0, and how far that is carried along."""
+    chain, ring = [(0, 1, 0, 0), (1, 2, 0, 0)], [(0, 1, 0, 0), (1, 2, 0, 0), (2, 0, 0, 2)]
+    types, kinds = [(1, 1), (0, 2)], [0, 1, 0]
+    yield (9, 4, types, kinds, chain), [(5, 8), (0, 8), (0, 8)]  # the first carries the others along
+    yield (9, 4, types, kinds, chain), [(0, 8), (5, 5), (0, 8)]  # one in the midst carries the last alone
+    yield (9, 4, types, kinds, chain), [(0, 8), (0, 8), (8, 8)]  # the last is carried by nothing
+    yield (9, 4, types, kinds, chain), [(2, 3), (2, 3), (4, 8)]  # each floor is below what the first one asks
+    yield (9, 4, types, kinds, chain), [(8, 8), (0, 1), (0, 0)]  # starts past hi and past the horizon
+    yield (9, 4, types, kinds, ring), [(0, 8), (0, 8), (7, 8)]  # the last carries the first, back over two iterations
+    yield (9, 4, types, kinds, ring), [(0, 0), (4, 4), (0, 8)]  # at 1 a loop, whatever the windows
+    yield (128, 64, [(0, 32)], [0, 0], [(0, 1, 64, 0)]), [(127, 127), (0, 127)]  # the ends of the ranges
+    yield (128, 64, [(0, 32)], [0, 0], [(0, 1, -64, 8)]), [(127, 127), (0, 0)]
+    yield (128, 64, [(0, 0)], [0], [(0, 0, 0, 0)]), [(127, 127)]  # a sum of exactly 0
+    yield (9, 9, types, [0, 0], []), [(8, 8), (3, 3)]  # no edges
+    yield (9, 9, types, [0, 0], [(0, 1, 3, 0), (0, 1, 5, 1), (1, 0, -9, 0)]), [(2, 8), (4, 8)]  # parallel edges
+
+
+def random_windows(pick, count):
+    for fields in random_sheets(pick, count):
+        last = fields[0] - 1
+        ends = [(0, last, pick.randint(0, last), pick.randint(0, min(last, 6))) for _ in fields[3]]
+        yield fields, [sorted(pick.choice(some) for _ in range(2)) for some in ends]
+
+
 def pieces():
     """Each piece with the lines that are due for it."""
     for fields in itertools.chain(chosen(), random_sheets(random.Random(SEED), 150)):
-        yield accepted(fields)
+        yield accepted(plain_sheet(*fields))
     for answer, piece in REFUSED:
         yield piece, expected(answer, None)
-    yield from map(accepted, late_results())
+    for fields in late_results():
+        yield accepted(plain_sheet(*fields))
+    for fields, windows in itertools.chain(floors(), random_windows(random.Random(SEED + 1), 60)):
+        yield accepted(with_windows(plain_sheet(*fields), windows))
+    for answer, piece in REFUSED_WINDOWS:
+        yield piece, expected(answer, None)
 
 
-def accepted(fields):
-    sheet = Sheet(*fields)
+def accepted(sheet):
     return sheet_text(sheet).decode(), expected(0, sheet)
 
 
