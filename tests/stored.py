@@ -13,13 +13,13 @@ import orders
 import placings
 import reference as ref
 import sheets
-from reference import Sheet
+from reference import plain_sheet, with_horizon, with_windows
 
 ROOT = os.path.join(os.path.dirname(os.path.abspath(__file__)), "..")
 LONGEST = ref.SHEET_BYTES + 1  # what leastplan reads at most
 INPUT = 262144  # what the programs over many pieces read at most
 
-BASE = Sheet(
+BASE = plain_sheet(
     20,
     6,
     [(1, 1), (0, 2), (2, 0)],
@@ -34,6 +34,13 @@ BASE_TEXT = ref.sheet_text(BASE)
 
 def framed(pieces):
     return b"".join(b"bytes=%d\n%s" % (len(p), p) for p in pieces)
+
+
+def one_input(pieces):
+    """The pieces as the input of one run; they must fit."""
+    data = framed(pieces)
+    assert len(data) <= INPUT
+    return data
 
 
 def runs(pieces):
@@ -90,6 +97,8 @@ def field_values(key, field):
         (b"type", 1): (0, 32),
         (b"ops", 0): (1, 24),
         (b"op", 0): (0, len(BASE.types) - 1),
+        (b"op", 1): (0, BASE.horizon - 1),
+        (b"op", 2): (0, BASE.horizon - 1),
         (b"edges", 0): (0, 96),
         (b"edge", 0): (0, len(BASE.ops) - 1),
         (b"edge", 1): (0, len(BASE.ops) - 1),
@@ -113,22 +122,24 @@ def boundaries():
 def counted(types, n, e):
     """A sheet with these counts, so that a count at its end is followed by as many lines."""
     edges = [(k % n, (k * 7) % n, -64 + k, k % 9) for k in range(e)]
-    return ref.sheet_text(Sheet(128, 64, [(8, 32)] * types, [k % types for k in range(n)], edges))
+    return ref.sheet_text(plain_sheet(128, 64, [(8, 32)] * types, [k % types for k in range(n)], edges))
 
 
 def counts():
     for types, n, e in [(1, 1, 0), (8, 24, 96), (7, 23, 95), (2, 2, 1), (8, 1, 96), (1, 24, 0)]:
         yield counted(types, n, e)
-    yield ref.sheet_text(Sheet(1, 1, [(0, 0)], [0], []))
-    longest = Sheet(128, 64, [(8, 32)] * 8, [7] * 24, [(23, 23, -64, 8)] * 96)
+    yield ref.sheet_text(plain_sheet(1, 1, [(0, 0)], [0], []))
+    longest = plain_sheet(128, 64, [(8, 32)] * 8, [7] * 24, [(23, 23, -64, 8)] * 96)
     yield ref.sheet_text(longest)
+    yield ref.sheet_text(with_windows(longest, [(100 + k, 127) for k in range(24)]))
     for text in (counted(8, 24, 96), counted(1, 1, 0)):
         rows = lines_of(text)
         yield b"\n".join(rows[:-1]) + b"\n"
         yield b"\n".join(rows + rows[-1:]) + b"\n"
 
 
-NUMBERS = [b"", b"-0", b"00", b"01", b"+1", b"-1", b"--1", b"1-", b"-", b" 1", b"1 ", b"1.", b"0x1", b"00000", b"12345", b"\xb1", b"1\x00"]
+NUMBERS = [b"", b"-0", b"00", b"01", b"+1", b"-1", b"--1", b"1-", b"-", b" 1", b"1 ", b"1.", b"0x1"]
+NUMBERS += [b"00000", b"12345", b"\xb1", b"1\x00"]
 
 
 def malformations():
@@ -187,6 +198,43 @@ def several_faults():
     yield b"\xef\xbb\xbf" + BASE_TEXT
 
 
+def frames():
+    """Another horizon: windows that are all of it, and those of the base as they are, which go by its own."""
+    for horizon in (1, 2, 19, 20, 21, 127, 128):
+        yield ref.sheet_text(with_horizon(BASE, horizon))
+        yield with_line(0, b"horizon=%d" % horizon)
+
+
+def with_op_lines(*lines):
+    """The base with other lines of its first operations."""
+    first = lines_of(BASE_TEXT).index(b"ops=%d" % len(BASE.ops)) + 1
+    rows = lines_of(BASE_TEXT)
+    return b"\n".join(rows[:first] + list(lines) + rows[first + len(lines) :]) + b"\n"
+
+
+def windows():
+    """16 in a line, beside 2 and 3 in it, and beside 2, 3 and 16 in lines before and after it; windows of one clock."""
+    inside = [(0, 0), (19, 19), (18, 19), (19, 18), (1, 0), (19, 0), (7, 7), (8, 7)]
+    for window in inside + [(20, 19), (20, 20), (19, 20), (21, 20)]:
+        yield with_op_lines(b"op=0,%d,%d" % window)
+    for rest in (b"3,5,4", b"3,20,4", b"0,5,04", b"00,5,4", b"0,5,-4", b"0,5", b"0,5,4,", b"0,5,4,3"):
+        yield with_op_lines(b"op=" + rest)
+    faults = [b"op=0,5,4", b"op=3,0,19", b"op=0,20,0", b"op=0,0,20", b"op=00,0,19", b"op=0,0", b"op=0,6,6"]
+    for first in faults:
+        for second in faults:
+            yield with_op_lines(first, second)
+    yield with_op_lines(b"op=0,5,4").replace(b"edge=2,0,-12,0\n", b"edge=2,0,-65,0\n")
+    yield with_op_lines(b"op=0,5,4").replace(b"edges=4\n", b"edges=97\n")
+    yield with_op_lines(b"op=0,5,4").replace(b"edges=4\n", b"edges=x\n")
+    yield with_op_lines(b"op=0,5,4").replace(b"cap=6\n", b"cap=65\n")
+    yield with_op_lines(b"op=0,5,4").replace(b"type=2,0\n", b"type=2,00\n")
+    yield with_op_lines(b"op=0,5,4") + b"x"
+    yield with_op_lines(b"op=0,5,4").split(b"op=1")[0]
+    yield with_op_lines(b"op=0,5,4").split(b"\nop=1")[0]
+    yield with_op_lines(*[b"op=0,0,19"] * 3, b"op=0,1,0")
+    yield with_op_lines(*[b"op=0,0,19"] * 3, b"op=0,1,0").split(b"edges=")[0]
+
+
 def sizes():
     yield b""
     yield b"\n"
@@ -201,15 +249,16 @@ def sizes():
 
 def random_reads(rng, rounds):
     for _ in range(rounds):
-        text = sheets.text_of(rng.choice([sheets.wide_sheet, sheets.small_sheet, sheets.small_sheet]), rng)
+        text = sheets.text_of(rng.choice([sheets.wide_sheet, sheets.small_sheet, sheets.narrow_sheet]), rng)
         yield text
         yield sheets.damaged(rng, text)[:LONGEST]
-        yield sheets.damaged(rng, sheets.text_of(sheets.small_sheet, rng))[:LONGEST]
+        yield sheets.damaged(rng, sheets.text_of(sheets.narrow_sheet, rng))[:LONGEST]
 
 
 def reader_pieces():
+    parts = [boundaries(), frames(), counts(), malformations(), several_faults(), windows(), sizes()]
     pieces = [BASE_TEXT]
-    for part in (boundaries(), counts(), malformations(), several_faults(), sizes(), random_reads(sheets.seeded(3), 120)):
+    for part in parts + [random_reads(sheets.seeded(3), 60)]:
         pieces += part
     return list(dict.fromkeys(pieces))
 
@@ -219,15 +268,15 @@ def reader_pieces():
 
 def paper_cases():
     """Every case of document 01 that is a sheet."""
-    a = Sheet(3, 4, [(1, 1), (0, 1)], [0, 1, 0], [(0, 1, 0, 0), (1, 2, 0, 0), (2, 0, 0, 2)])
+    a = plain_sheet(3, 4, [(1, 1), (0, 1)], [0, 1, 0], [(0, 1, 0, 0), (1, 2, 0, 0), (2, 0, 0, 2)])
     yield ref.sheet_text(a)
-    yield ref.sheet_text(Sheet(4, 4, a.types, a.ops, a.edges))
-    yield ref.sheet_text(Sheet(5, 5, [(1, 1)], [0, 0], [(0, 1, 3, 0), (1, 0, -5, 0)]))
-    yield ref.sheet_text(Sheet(1, 3, [(1, 1)], [0], [(0, 0, 0, 0)]))
-    yield ref.sheet_text(Sheet(1, 3, [(1, 0)], [0], [(0, 0, 0, 0)]))
-    yield ref.sheet_text(Sheet(1, 1, [(2, 1)], [0, 0, 0], []))
-    yield ref.sheet_text(Sheet(2, 2, [(2, 1)], [0, 0, 0], []))
-    yield ref.sheet_text(Sheet(1, 1, [(1, 2)], [0], []))
+    yield ref.sheet_text(with_horizon(a, 4))
+    yield ref.sheet_text(plain_sheet(5, 5, [(1, 1)], [0, 0], [(0, 1, 3, 0), (1, 0, -5, 0)]))
+    yield ref.sheet_text(plain_sheet(1, 3, [(1, 1)], [0], [(0, 0, 0, 0)]))
+    yield ref.sheet_text(plain_sheet(1, 3, [(1, 0)], [0], [(0, 0, 0, 0)]))
+    yield ref.sheet_text(plain_sheet(1, 1, [(2, 1)], [0, 0, 0], []))
+    yield ref.sheet_text(plain_sheet(2, 2, [(2, 1)], [0, 0, 0], []))
+    yield ref.sheet_text(plain_sheet(1, 1, [(1, 2)], [0], []))
     text = ref.sheet_text(a)
     yield b""
     yield text + b"\n" * (4097 - len(text))
@@ -239,33 +288,69 @@ def paper_cases():
 
 def odd_plans():
     """Ends of the ranges that enumeration can still do."""
-    yield ref.sheet_text(Sheet(128, 64, [(1, 32)], [0, 0], [(0, 1, 64, 0)]))
-    yield ref.sheet_text(Sheet(128, 64, [(0, 32)], [0, 0], [(0, 1, 64, 0), (1, 0, -64, 8)]))
-    yield ref.sheet_text(Sheet(128, 64, [(1, 0)], [0] * 2, []))
-    yield ref.sheet_text(Sheet(1, 64, [(8, 1)], [0] * 8, []))
-    yield ref.sheet_text(Sheet(1, 9, [(8, 1)], [0] * 9, []))
-    yield ref.sheet_text(Sheet(1, 1, [(0, 1)], [0] * 24, []))
-    yield ref.sheet_text(Sheet(2, 2, [(8, 1)], [0] * 16, []))
-    yield ref.sheet_text(Sheet(4, 3, [(0, 1)], [0, 0], [(0, 1, -1, 0), (1, 0, -1, 0)]))
-    yield ref.sheet_text(Sheet(4, 3, [(0, 1)], [0, 0, 0], [(2, 1, 0, 0), (1, 2, 0, 0), (0, 0, 3, 1), (0, 0, 4, 1)]))
-    yield ref.sheet_text(Sheet(2, 2, [(0, 1)], [0], [(0, 0, -2, 0)] * 10 + [(0, 0, 2, 1), (0, 0, 3, 1)]))
+    yield ref.sheet_text(plain_sheet(128, 64, [(1, 32)], [0, 0], [(0, 1, 64, 0)]))
+    yield ref.sheet_text(plain_sheet(128, 64, [(0, 32)], [0, 0], [(0, 1, 64, 0), (1, 0, -64, 8)]))
+    yield ref.sheet_text(plain_sheet(128, 64, [(1, 0)], [0] * 2, []))
+    yield ref.sheet_text(plain_sheet(1, 64, [(8, 1)], [0] * 8, []))
+    yield ref.sheet_text(plain_sheet(1, 9, [(8, 1)], [0] * 9, []))
+    yield ref.sheet_text(plain_sheet(1, 1, [(0, 1)], [0] * 24, []))
+    yield ref.sheet_text(plain_sheet(2, 2, [(8, 1)], [0] * 16, []))
+    yield ref.sheet_text(plain_sheet(4, 3, [(0, 1)], [0, 0], [(0, 1, -1, 0), (1, 0, -1, 0)]))
+    edges = [(2, 1, 0, 0), (1, 2, 0, 0), (0, 0, 3, 1), (0, 0, 4, 1)]
+    yield ref.sheet_text(plain_sheet(4, 3, [(0, 1)], [0, 0, 0], edges))
+    yield ref.sheet_text(plain_sheet(2, 2, [(0, 1)], [0], [(0, 0, -2, 0)] * 10 + [(0, 0, 2, 1), (0, 0, 3, 1)]))
 
 
 def ends_of_frames():
     """Results at the horizon and a clock past it; latency 0, which still asks for a start below the horizon."""
     for horizon in (128, 127):
-        yield ref.sheet_text(Sheet(horizon, 64, [(0, 32)], [0, 0], [(0, 1, 64, 0)]))
+        yield ref.sheet_text(plain_sheet(horizon, 64, [(0, 32)], [0, 0], [(0, 1, 64, 0)]))
     for horizon, latency in ((32, 32), (31, 32), (1, 1), (1, 32), (1, 0), (2, 0), (3, 2), (3, 3)):
-        yield ref.sheet_text(Sheet(horizon, 3, [(1, latency)], [0, 0], []))
+        yield ref.sheet_text(plain_sheet(horizon, 3, [(1, latency)], [0, 0], []))
     for horizon in (5, 6, 7):
-        yield ref.sheet_text(Sheet(horizon, 4, [(1, 1), (0, 4)], [0, 0, 1], [(1, 2, 0, 0)]))
+        yield ref.sheet_text(plain_sheet(horizon, 4, [(1, 1), (0, 4)], [0, 0, 1], [(1, 2, 0, 0)]))
+
+
+def binding_windows():
+    """Windows that decide at either end: the start of a plan, its interval, or that there is none."""
+    alone = plain_sheet(4, 3, [(1, 2)], [0], [])
+    yield from each_with(alone, [[(0, 0)], [(2, 2)], [(1, 3)], [(3, 3)], [(0, 3)]])
+    rivals = plain_sheet(6, 4, [(1, 1)], [0, 0], [])
+    yield from each_with(rivals, [[(3, 3)] * 2, [(3, 3), (0, 3)], [(2, 5), (0, 0)], [(5, 5)] * 2, [(0, 1), (1, 2)]])
+    chain = plain_sheet(6, 3, [(0, 2)], [0, 0], [(0, 1, 0, 0)])
+    yield from each_with(chain, [[(2, 5), (0, last)] for last in (5, 4, 3)])
+    yield from each_with(chain, [[(3, 5), (0, 5)], [(0, 0), (2, 2)], [(1, 5), (0, 2)]])
+    ring = plain_sheet(8, 5, [(1, 1)], [0, 0], [(0, 1, 2, 0), (1, 0, 0, 1)])
+    yield from each_with(ring, [[(4, 7), (0, 7)], [(0, 7), (0, 2)], [(4, 4), (7, 7)], [(5, 5), (7, 7)]])
+    longest = plain_sheet(128, 64, [(1, 32)], [0, 0], [(0, 1, 64, 0)])
+    yield from each_with(longest, [[(0, 0), (96, 96)], [(1, 127), (0, 127)], [(0, 127), (96, 127)]])
+    yield from each_with(longest, [[(0, 0), (0, 95)], [(0, 0), (97, 127)]])
+
+
+def each_with(sheet, lists):
+    """The text of the sheet with each of these lists of windows."""
+    return [ref.sheet_text(with_windows(sheet, windows)) for windows in lists]
+
+
+def refused_windows():
+    """Case A with another window of its first operation, alone and with another of its second."""
+    text = next(paper_cases())
+    for line in (b"op=0,1,0", b"op=0,2,1", b"op=0,3,2", b"op=0,0,3", b"op=0,2,3", b"op=2,2,1", b"op=0,2,01"):
+        yield text.replace(b"op=0,0,2", line, 1)
+        yield text.replace(b"op=0,0,2", line, 1).replace(b"op=1,0,2", b"op=1,1,0")
+        yield text.replace(b"op=1,0,2", line.replace(b"op=0", b"op=1")).replace(b"edge=2,0,0,2", b"edge=2,0,0,9")
+
+
+def texts(make, seed, count):
+    rng = sheets.seeded(seed)
+    return [sheets.text_of(make, rng) for _ in range(count)]
 
 
 def plan_pieces():
-    rng, late = sheets.seeded(4), sheets.seeded(8)
-    pieces = list(paper_cases()) + list(odd_plans())
-    pieces += [sheets.text_of(sheets.small_sheet, rng) for _ in range(400)]
-    pieces += list(ends_of_frames()) + [sheets.text_of(sheets.late_sheet, late) for _ in range(200)]
+    pieces = list(paper_cases()) + list(odd_plans()) + texts(sheets.small_sheet, 4, 400)
+    pieces += list(ends_of_frames()) + texts(sheets.late_sheet, 8, 200)
+    pieces += list(binding_windows()) + list(refused_windows())
+    pieces += texts(sheets.windowed_sheet, 9, 200) + texts(sheets.narrow_sheet, 10, 100)
     return list(dict.fromkeys(pieces))
 
 
@@ -273,7 +358,8 @@ def plan_pieces():
 
 ASKED = ["separations", "interval=3"]  # of case A, by the program ask
 
-PAGE_HEAD = """Each command with its output, typed in the root folder of the repository. What follows a line that begins with $ is the
+PAGE_HEAD = """\
+Each command with its output, typed in the root folder of the repository. What follows a line that begins with $ is the
 output, byte for byte, up to an empty line. tests/stored.py makes this page by tests/reference.py, not by the program;
 tests/check_commands types all of it again.
 """
@@ -285,6 +371,7 @@ PAGE = [
     ("starts interval=3", "sample_deadline"),
     ("starts interval=1", "both_bounds_low"),
     ("starts interval=4", "horizon_too_short"),
+    ("starts interval=3", "sensor_settles"),
     ("separations interval=5", "clarke_park"),
     ("plan interval=4", "three_phases"),
     ("plan interval=2", "both_bounds_low"),
@@ -292,6 +379,7 @@ PAGE = [
     ("order interval=3 pair=0", "sample_deadline"),
     ("check", "sample_deadline"),
     ("check", "leading_zero"),
+    ("check", "window_reversed"),
     ("write", "both_bounds_low"),
 ]
 
@@ -320,13 +408,13 @@ def stored_files():
     yield "crates/ask/stdin", case_a
     yield "crates/ask/stdout", ref.ask(ASKED, case_a)
     yield "examples/commands.txt", command_page()
-    yield "crates/test_sheet/stdin", framed(reads)
+    yield "crates/test_sheet/stdin", one_input(reads)
     yield "crates/test_sheet/stdout", marked(read_answer(p) for p in reads)
-    yield "crates/test_placing/stdin", framed(pieces)
+    yield "crates/test_placing/stdin", one_input(pieces)
     yield "crates/test_placing/stdout", marked(answers)
     yield "crates/test_order/stdin", pairs
     yield "crates/test_order/stdout", verdicts
-    yield "crates/test_plan/stdin", framed(plans)
+    yield "crates/test_plan/stdin", one_input(plans)
     yield "crates/test_plan/stdout", marked(ref.leastplan(p) for p in plans)
 
 
