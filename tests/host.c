@@ -8,21 +8,67 @@
 #include "leastplan.h"
 #include "expect.h"
 
-enum { LONGEST = 4096, FILL = 0x5A };
+enum { LONGEST = 4096, FILL = 0x5A, TEXT = 512, MOST = 4 };
 
-/* The cases of document 01. */
-static const char A[] =
-    "horizon=3\ncap=4\ntypes=2\ntype=1,1\ntype=0,1\nops=3\nop=0\nop=1\nop=0\n"
-    "edges=3\nedge=0,1,0,0\nedge=1,2,0,0\nedge=2,0,0,2\n";
-static const char B[] =
-    "horizon=4\ncap=4\ntypes=2\ntype=1,1\ntype=0,1\nops=3\nop=0\nop=1\nop=0\n"
-    "edges=3\nedge=0,1,0,0\nedge=1,2,0,0\nedge=2,0,0,2\n";
-static const char NOT_MONOTONE[] =
-    "horizon=5\ncap=5\ntypes=1\ntype=1,1\nops=2\nop=0\nop=0\nedges=2\nedge=0,1,3,0\nedge=1,0,-5,0\n";
-static const char SELF[] = "horizon=1\ncap=3\ntypes=1\ntype=0,1\nops=1\nop=0\nedges=1\nedge=0,0,0,0\n";
-static const char THREE[] = "horizon=2\ncap=2\ntypes=1\ntype=2,1\nops=3\nop=0\nop=0\nop=0\nedges=0\n";
-static const char ONE[] = "horizon=2\ncap=1\ntypes=1\ntype=1,2\nops=1\nop=0\nedges=0\n";
-static const char LATE[] = "horizon=1\ncap=1\ntypes=1\ntype=1,2\nops=1\nop=0\nedges=0\n";
+/* A loop: its types (instances, latency), the type of each operation, its edges. */
+typedef struct {
+    int horizon, cap;
+    int type_count, types[MOST][2];
+    int op_count, kinds[MOST];
+    int edge_count, edges[MOST][4];
+} loop;
+
+typedef int windows[MOST][2];
+
+/* The text of a loop with these windows (lo, hi), or with that of the whole horizon for each operation. */
+static void put_sheet(char *text, loop s, windows some)
+{
+    text += sprintf(text, "horizon=%d\ncap=%d\ntypes=%d\n", s.horizon, s.cap, s.type_count);
+    for (int k = 0; k < s.type_count; k++) text += sprintf(text, "type=%d,%d\n", s.types[k][0], s.types[k][1]);
+    text += sprintf(text, "ops=%d\n", s.op_count);
+    for (int i = 0; i < s.op_count; i++) {
+        int lo = some ? some[i][0] : 0, hi = some ? some[i][1] : s.horizon - 1;
+        text += sprintf(text, "op=%d,%d,%d\n", s.kinds[i], lo, hi);
+    }
+    text += sprintf(text, "edges=%d\n", s.edge_count);
+    for (int k = 0; k < s.edge_count; k++) {
+        const int *e = s.edges[k];
+        text += sprintf(text, "edge=%d,%d,%d,%d\n", e[0], e[1], e[2], e[3]);
+    }
+}
+
+/* The cases of document 01, and one operation whose result just meets the horizon or comes late. */
+static char A[TEXT], B[TEXT], NOT_MONOTONE[TEXT], SELF[TEXT], THREE[TEXT], ONE[TEXT], LATE[TEXT];
+
+/* Windows: case B with its last operation due at clock 2; from clock 1; never met; and upside down, before or after
+   another fault. */
+static char DUE[TEXT], SETTLED[TEXT], NEVER[TEXT], UPSIDE_DOWN[TEXT], PAST_TOO[TEXT], PAST_BEFORE[TEXT];
+
+static void plain_sheets(void)
+{
+    loop a = {3, 4, 2, {{1, 1}, {0, 1}}, 3, {0, 1, 0}, 3, {{0, 1, 0, 0}, {1, 2, 0, 0}, {2, 0, 0, 2}}};
+    put_sheet(A, a, NULL);
+    a.horizon = 4;
+    put_sheet(B, a, NULL);
+    put_sheet(NOT_MONOTONE, (loop){5, 5, 1, {{1, 1}}, 2, {0, 0}, 2, {{0, 1, 3, 0}, {1, 0, -5, 0}}}, NULL);
+    put_sheet(SELF, (loop){1, 3, 1, {{0, 1}}, 1, {0}, 1, {{0, 0, 0, 0}}}, NULL);
+    put_sheet(THREE, (loop){2, 2, 1, {{2, 1}}, 3, {0, 0, 0}, 0, {{0}}}, NULL);
+    put_sheet(ONE, (loop){2, 1, 1, {{1, 2}}, 1, {0}, 0, {{0}}}, NULL);
+    put_sheet(LATE, (loop){1, 1, 1, {{1, 2}}, 1, {0}, 0, {{0}}}, NULL);
+}
+
+static void windowed_sheets(void)
+{
+    loop b = {4, 4, 2, {{1, 1}, {0, 1}}, 3, {0, 1, 0}, 3, {{0, 1, 0, 0}, {1, 2, 0, 0}, {2, 0, 0, 2}}};
+    put_sheet(DUE, b, (windows){{0, 3}, {0, 3}, {0, 2}});
+    put_sheet(SETTLED, b, (windows){{1, 3}, {0, 3}, {3, 3}});
+    put_sheet(NEVER, b, (windows){{1, 3}, {0, 3}, {0, 2}});
+    put_sheet(UPSIDE_DOWN, b, (windows){{0, 3}, {2, 1}, {0, 3}});
+    put_sheet(PAST_TOO, b, (windows){{0, 3}, {4, 1}, {0, 3}});
+    b.edges[2][3] = 9;
+    put_sheet(PAST_BEFORE, b, (windows){{0, 4}, {2, 1}, {0, 3}});
+}
+
 static const char PLAN_A[] = "answer=0\ninterval=3\nat=0,0\nat=1,0\nat=2,0\n";
 static const char PLAN_THREE[] = "answer=0\ninterval=2\nat=0,0\nat=0,1\nat=1,0\n";
 
@@ -85,6 +131,37 @@ static void valid_sheets(void)
     EXPECT(text_is(NOT_MONOTONE, strlen(NOT_MONOTONE), 5, 100, 0, "answer=0\ninterval=5\nat=0,0\nat=4,0\n"));
 }
 
+/* DUE: at interval 2 the first and the last operation, on one unit, would have one slot. */
+static void windows_decide(void)
+{
+    EXPECT(least_is(DUE, strlen(DUE), 0, 3));
+    EXPECT(text_is(DUE, strlen(DUE), 1, 100, 5, ""));
+    EXPECT(text_is(DUE, strlen(DUE), 2, 100, 6, ""));
+    EXPECT(text_is(DUE, strlen(DUE), 3, 100, 0, PLAN_A));
+    EXPECT(order_is(DUE, 2, 1, 6, 0));
+    EXPECT(order_is(DUE, 3, 1, 0, 1));
+    EXPECT(least_is(SETTLED, strlen(SETTLED), 0, 3));
+    EXPECT(text_is(SETTLED, strlen(SETTLED), 2, 100, 6, ""));
+    EXPECT(text_is(SETTLED, strlen(SETTLED), 3, 100, 0, "answer=0\ninterval=3\nat=1,0\nat=2,0\nat=3,0\n"));
+    EXPECT(order_is(SETTLED, 3, 1, 0, 2));
+    EXPECT(least_is(NEVER, strlen(NEVER), 7, 0));
+    EXPECT(text_is(NEVER, strlen(NEVER), 1, 100, 5, ""));
+    for (uint64_t interval = 2; interval <= 4; interval++) EXPECT(text_is(NEVER, strlen(NEVER), interval, 100, 6, ""));
+}
+
+/* Every call answers 16, before what it would say of interval, pair or room; 3 in the same line goes before it, and so
+   does 3 in an earlier line. */
+static void windows_refused(void)
+{
+    EXPECT(least_is(UPSIDE_DOWN, strlen(UPSIDE_DOWN), 16, 0));
+    EXPECT(text_is(UPSIDE_DOWN, strlen(UPSIDE_DOWN), 2, 100, 16, ""));
+    EXPECT(text_is(UPSIDE_DOWN, strlen(UPSIDE_DOWN), SIZE_MAX, 0, 16, ""));
+    EXPECT(order_is(UPSIDE_DOWN, 0, SIZE_MAX, 16, 0));
+    EXPECT(least_is(PAST_TOO, strlen(PAST_TOO), 3, 0));
+    EXPECT(least_is(PAST_BEFORE, strlen(PAST_BEFORE), 3, 0));
+    EXPECT(least_is(UPSIDE_DOWN, strlen(UPSIDE_DOWN) - 1, 16, 0));
+}
+
 static void intervals(void)
 {
     EXPECT(text_is(A, strlen(A), 0, 100, 4, ""));
@@ -145,7 +222,11 @@ static void refused_sheets(void)
 
 int main(void)
 {
+    plain_sheets();
+    windowed_sheets();
     valid_sheets();
+    windows_decide();
+    windows_refused();
     intervals();
     buffers();
     pairs();

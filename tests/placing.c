@@ -10,11 +10,33 @@
 
 /* Operations 0, 1 and 3 are rivals with two instances, 2 is of an unlimited type; starts 0 to 3, intervals 1 to 3. The
    result of 2 comes after the horizon at any start: so the sheet has no plan, but a table may hold the operation. */
-static const leastplan_sheet FOUR = {
-    .horizon = 4, .cap = 3, .type_count = 2, .types = {{2, 1}, {0, 9}},
-    .op_count = 4, .ops = {{0}, {0}, {1}, {0}},
-    .edge_count = 1, .edges = {{0, 1, 1, 0}},
-};
+static leastplan_sheet FOUR;
+
+/* Operations of these types, each with the window of the whole horizon. */
+static void set_operations(leastplan_sheet *sheet, size_t count, const size_t *kinds)
+{
+    sheet->op_count = count;
+    for (size_t i = 0; i < count; i++)
+        sheet->ops[i] = (leastplan_operation){.resource = kinds[i], .lo = 0, .hi = sheet->horizon - 1};
+}
+
+static void set_types(leastplan_sheet *sheet, size_t count, const size_t (*types)[2])
+{
+    sheet->type_count = count;
+    for (size_t k = 0; k < count; k++)
+        sheet->types[k] = (leastplan_type){.instances = types[k][0], .latency = types[k][1]};
+}
+
+static void make_four(void)
+{
+    const size_t types[2][2] = {{2, 1}, {0, 9}}, kinds[4] = {0, 0, 1, 0};
+    FOUR.horizon = 4;
+    FOUR.cap = 3;
+    set_types(&FOUR, 2, types);
+    set_operations(&FOUR, 4, kinds);
+    FOUR.edge_count = 1;
+    FOUR.edges[0] = (leastplan_edge){.from = 0, .to = 1, .delay = 1, .distance = 0};
+}
 
 /* The table that is kept, and what it is to hold. */
 static leastplan_table *kept, due;
@@ -29,11 +51,16 @@ static bool as_due(void)
 }
 
 /* A placement: the operation gets this instance, and no other entry is altered. */
-static bool placed(size_t interval, size_t op, size_t start, size_t instance)
+static bool placed_of(leastplan_sheet sheet, size_t interval, size_t op, size_t start, size_t instance)
 {
-    leastplan_placed got = leastplan_place_into(kept, FOUR, interval, op, start);
+    leastplan_placed got = leastplan_place_into(kept, sheet, interval, op, start);
     due.entries[op] = (leastplan_placement){true, start, instance};
     return got.answer == 0 && got.instance == instance && as_due();
+}
+
+static bool placed(size_t interval, size_t op, size_t start, size_t instance)
+{
+    return placed_of(FOUR, interval, op, start, instance);
 }
 
 /* A refusal: the instance is 0, and the table holds what it held. */
@@ -103,13 +130,57 @@ static void handed_in(void)
     EXPECT(placed(2, 3, 0, 0));
 }
 
+static leastplan_sheet with_window(leastplan_sheet sheet, size_t op, size_t lo, size_t hi)
+{
+    sheet.ops[op].lo = lo;
+    sheet.ops[op].hi = hi;
+    return sheet;
+}
+
+/* The lines of the sheet in their order: within one 3 goes before 16, and an earlier one decides. */
+static void windows_refused(void)
+{
+    leastplan_sheet wrong = with_window(FOUR, 1, 3, 2);
+    EXPECT(refused(wrong, 2, 0, 0, 16));
+    EXPECT(refused(wrong, SIZE_MAX, SIZE_MAX, SIZE_MAX, 16));
+    EXPECT(refused(with_window(FOUR, 1, 4, 3), 2, 0, 0, 3));
+    EXPECT(refused(with_window(FOUR, 1, 0, 4), 2, 0, 0, 3));
+    EXPECT(refused(with_window(FOUR, 3, SIZE_MAX, 0), 2, 0, 0, 3));
+    EXPECT(refused(with_window(FOUR, 3, 0, SIZE_MAX), 2, 0, 0, 3));
+    EXPECT(refused(with_window(wrong, 2, 4, 4), 2, 0, 0, 16));
+    EXPECT(refused(with_window(wrong, 0, 4, 4), 2, 0, 0, 3));
+    wrong.edges[0].distance = 9;
+    EXPECT(refused(wrong, 2, 0, 0, 16));
+    wrong.ops[1].resource = 2;
+    EXPECT(refused(wrong, 2, 0, 0, 3));
+    wrong = with_window(FOUR, 1, 3, 2);
+    wrong.cap = 65;
+    EXPECT(refused(wrong, 2, 0, 0, 3));
+}
+
+/* A window plays no part in a placement, nor in what a table may hold; past the operations it is no part of the
+   sheet. */
+static void outside_windows(void)
+{
+    leastplan_sheet narrow = with_window(with_window(FOUR, 3, 1, 1), 4, 3, 2);
+    kept->entries[3] = due.entries[3] = (leastplan_placement){false, 0, 0};
+    EXPECT(placed_of(narrow, 2, 3, 2, 0));
+    kept->entries[3] = due.entries[3] = (leastplan_placement){false, 0, 0};
+    narrow = with_window(with_window(narrow, 0, 0, 0), 1, 0, 0);
+    EXPECT(placed_of(narrow, 2, 3, 0, 0));
+    EXPECT(refused(narrow, 2, 3, 0, 12));
+}
+
 int main(void)
 {
+    make_four();
     kept = malloc(sizeof *kept);
     memset(kept, 0, sizeof *kept);
     placements();
     refusals();
     handed_in();
+    windows_refused();
+    outside_windows();
     free(kept);
     if (!failures) printf("ok placing into a table kept by C (%d checks)\n", checks);
     return failures != 0;
