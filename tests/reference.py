@@ -51,7 +51,8 @@ def plain_sheet(horizon, cap, types, kinds, edges):
 
 def with_horizon(sheet, horizon):
     """The sheet with another horizon and windows that are the whole of it."""
-    return plain_sheet(horizon, sheet.cap, sheet.types, kinds(sheet), sheet.edges)
+    whole = Sheet(horizon, sheet.cap, sheet.types, sheet.ops, sheet.edges)
+    return with_windows(whole, [(0, horizon - 1)] * len(sheet.ops))
 
 
 def with_windows(sheet, windows):

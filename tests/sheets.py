@@ -27,7 +27,7 @@ def late_sheet(rng):
     just past the last of the earliest starts to just past the last result."""
     while True:
         sheet = small_sheet(rng)
-        sheet.types = [(a, rng.choice([0, d, d, rng.randint(1, 6)])) for a, d in sheet.types]
+        sheet.types = [(a, rng.choice([0, d, d, rng.randint(1, 6)]), *more) for a, d, *more in sheet.types]
         answer, starts, _ = earliest_starts(sheet, sheet.cap)
         if answer == 0 and max(starts) < 6:
             results = [t + latency(sheet, i) for i, t in enumerate(starts)]
