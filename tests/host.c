@@ -40,9 +40,13 @@ static void put_sheet(char *text, loop s, windows some)
 /* The cases of document 01, and one operation whose result just meets the horizon or comes late. */
 static char A[TEXT], B[TEXT], NOT_MONOTONE[TEXT], SELF[TEXT], THREE[TEXT], ONE[TEXT], LATE[TEXT];
 
-/* Windows: case B with its last operation due at clock 2; from clock 1; never met; and upside down, before or after
-   another fault. */
-static char DUE[TEXT], SETTLED[TEXT], NEVER[TEXT], UPSIDE_DOWN[TEXT], PAST_TOO[TEXT], PAST_BEFORE[TEXT];
+/* Case B with windows. DUE: the last operation starts by clock 2. SETTLED: the first from clock 1 on, and the last at 3.
+   NEVER: the first from 1 on and the last by 2, which the operation between them forbids. */
+static char DUE[TEXT], SETTLED[TEXT], NEVER[TEXT];
+
+/* Case B with lo past hi in the second operation; with lo at the horizon too; after hi at the horizon in the first
+   operation; and before an edge out of range. */
+static char UPSIDE_DOWN[TEXT], PAST_TOO[TEXT], AFTER_PAST[TEXT], BEFORE_PAST[TEXT];
 
 static void plain_sheets(void)
 {
@@ -65,8 +69,9 @@ static void windowed_sheets(void)
     put_sheet(NEVER, b, (windows){{1, 3}, {0, 3}, {0, 2}});
     put_sheet(UPSIDE_DOWN, b, (windows){{0, 3}, {2, 1}, {0, 3}});
     put_sheet(PAST_TOO, b, (windows){{0, 3}, {4, 1}, {0, 3}});
+    put_sheet(AFTER_PAST, b, (windows){{0, 4}, {2, 1}, {0, 3}});
     b.edges[2][3] = 9;
-    put_sheet(PAST_BEFORE, b, (windows){{0, 4}, {2, 1}, {0, 3}});
+    put_sheet(BEFORE_PAST, b, (windows){{0, 3}, {2, 1}, {0, 3}});
 }
 
 static const char PLAN_A[] = "answer=0\ninterval=3\nat=0,0\nat=1,0\nat=2,0\n";
@@ -149,8 +154,8 @@ static void windows_decide(void)
     for (uint64_t interval = 2; interval <= 4; interval++) EXPECT(text_is(NEVER, strlen(NEVER), interval, 100, 6, ""));
 }
 
-/* Every call answers 16, before what it would say of interval, pair or room; 3 in the same line goes before it, and so
-   does 3 in an earlier line. */
+/* Every call answers 16, before what it would say of interval, pair or room. 3 goes before it in the same line and in
+   an earlier one, and 2 and 3 in a later one come after it. */
 static void windows_refused(void)
 {
     EXPECT(least_is(UPSIDE_DOWN, strlen(UPSIDE_DOWN), 16, 0));
@@ -158,7 +163,8 @@ static void windows_refused(void)
     EXPECT(text_is(UPSIDE_DOWN, strlen(UPSIDE_DOWN), SIZE_MAX, 0, 16, ""));
     EXPECT(order_is(UPSIDE_DOWN, 0, SIZE_MAX, 16, 0));
     EXPECT(least_is(PAST_TOO, strlen(PAST_TOO), 3, 0));
-    EXPECT(least_is(PAST_BEFORE, strlen(PAST_BEFORE), 3, 0));
+    EXPECT(least_is(AFTER_PAST, strlen(AFTER_PAST), 3, 0));
+    EXPECT(least_is(BEFORE_PAST, strlen(BEFORE_PAST), 16, 0));
     EXPECT(least_is(UPSIDE_DOWN, strlen(UPSIDE_DOWN) - 1, 16, 0));
 }
 
