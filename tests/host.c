@@ -40,7 +40,7 @@ static void put_sheet(char *text, loop s, windows some)
 /* The cases of document 01, and one operation whose result just meets the horizon or comes late. */
 static char A[TEXT], B[TEXT], NOT_MONOTONE[TEXT], SELF[TEXT], THREE[TEXT], ONE[TEXT], LATE[TEXT];
 
-/* Case B with windows. DUE: the last operation starts by clock 2. SETTLED: the first from clock 1 on, and the last at 3.
+/* Case B with windows. DUE: the last operation starts by clock 2. SETTLED: the first from clock 1 on, the last at 3.
    NEVER: the first from 1 on and the last by 2, which the operation between them forbids. */
 static char DUE[TEXT], SETTLED[TEXT], NEVER[TEXT];
 
