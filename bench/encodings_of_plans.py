@@ -163,7 +163,8 @@ def lp(sheet, interval):
     for i in range(len(sheet.ops)):
         bounds.append("%d <= t%d <= %d" % (first_start(sheet, i), i, last_start(sheet, i)))
     general = ["t%d" % i for i in range(len(sheet.ops))] + ["k%d" % i for i in sorted(limited)]
-    parts = ["Minimize", " obj: 0 t0", "Subject To"] + [" c%d: %s" % c for c in enumerate(rows)]
+    every = " + ".join("0 t%d" % i for i in range(len(sheet.ops)))  # cbc cannot read names that have bounds alone
+    parts = ["Minimize", " obj: " + every, "Subject To"] + [" c%d: %s" % c for c in enumerate(rows)]
     parts += ["Bounds"] + [" " + b for b in bounds] + ["Generals"] + [" " + g for g in general]
     parts += ["Binaries"] + [" " + b for b in binaries] + ["End"]
     return "\n".join(parts) + "\n"
