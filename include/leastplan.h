@@ -11,6 +11,9 @@
      1  the sheet has more than 4,096 bytes
      2  a line is missing, malformed or under another key, or something follows the last line
      3  a number of the sheet is out of its range
+     16 an operation's window is empty: its lo exceeds its hi
+   The lines are gone through in their order: the first that is refused by 2, 3 or 16 answers, and within a line 2 comes
+   before 3, and 3 before 16.
    Further answers stand at each call. */
 #ifndef LEASTPLAN_H
 #define LEASTPLAN_H

@@ -7,8 +7,8 @@
    A call takes stack: 34 KB was the most measured.
 
    The structs are laid out as C lays them out on x86-64: a uint64_t has 8 bytes and stands at a multiple of 8, and the
-   bytes between fields have no meaning. Sizes: type 16, operation 8, edge 32, sheet 3,432, placement 24, table 576,
-   placed 16. */
+   bytes between fields have no meaning. Sizes: type 16, operation 24, edge 32, sheet 3,816, placement 24, table
+   576, placed 16. */
 #ifndef LEASTPLAN_PLACING_H
 #define LEASTPLAN_PLACING_H
 
@@ -25,8 +25,9 @@ enum { LEASTPLAN_MOST_TYPES = 8, LEASTPLAN_MOST_OPERATIONS = 24, LEASTPLAN_MOST_
 /* A type: its instances, 0 to 8 with 0 for unlimited, and its latency in clocks, 0 to 32. */
 typedef struct { uint64_t instances; uint64_t latency; } leastplan_type;
 
-/* An operation: the number of its type, below the count of types. */
-typedef struct { uint64_t resource; } leastplan_operation;
+/* An operation: the number of its type, below the count of types, and its window, the first and the last clock at which
+   a plan may start it: both below the horizon, lo at most hi. A placement need not keep the window. */
+typedef struct { uint64_t resource; uint64_t lo; uint64_t hi; } leastplan_operation;
 
 /* An edge between two operations below their count (they may be equal): its delay, -64 to 64, and its distance in
    iterations, 0 to 8. */
@@ -63,6 +64,8 @@ typedef struct { uint64_t answer; uint64_t instance; } leastplan_placed;
    no other thread may use it during the call. Every number may be any number. The first of these that holds is the
    answer:
      3   a number of the sheet is out of its range
+     16  the lo of an operation exceeds its hi; 3 or 16, whichever comes first in the order of the lines of a sheet:
+         horizon, cap, types, operations, edges
      4   the interval is not in 1 to the cap
      10  the table is not one of this sheet at this interval: a start is not below the horizon, an instance is not one
          of the operation's type, a number is not 0 where nothing is placed, something is placed past the sheet's

@@ -1,4 +1,4 @@
--- The C calls: the questions of reading a sheet, 1 to 3, and then the service on its numbers; 5 without the edges.
+-- The C calls: the questions of reading a sheet, and then the service on its numbers; 5 without the edges.
 use Prim.Native.Nat.{ℕ}
 use mathlib.Core.Path.{_≡_, sym, ap, subst, _∙_}
 use mathlib.Core.List.{List}

@@ -251,7 +251,8 @@ fn refuse(answer: usize, table: Table) -> PlaceAnswer
 }
 
 // Places an operation at a start on the lowest instance that is free there: the sheet's questions, 4, and 10 to 13.
-// Dependences are not considered, and a start need only lie in the horizon: unlike a plan's, its result may come later.
+// Dependences are not considered, and a start need only lie in the horizon: unlike a plan's, its result may come later,
+// and it may lie outside its window.
 pub fn place(sheet: Sheet, interval: usize, table: Table, op: usize, start: usize) -> PlaceAnswer
     ensures { λ r. ⌜ PlaceAt sheet interval table op start r ⌝ }
 {

@@ -63,15 +63,15 @@ typeKind = record {
   answer = typeAnswer;
 }
 
--- `op=r`, where r is below the count of types
-abbrev pub opKind : ℕ → Kind Operation
-opKind types = record {
+-- `op=r,lo,hi`, where r is below the count of types, lo and hi below the horizon
+abbrev pub opKind : ℕ → ℕ → Kind Operation
+opKind types horizon = record {
   key = key.opKey;
-  count = 1;
+  count = 3;
   minus = noMinus;
-  make = λ vs. record { resource = natAt vs 0 };
+  make = λ vs. record { resource = natAt vs 0; lo = natAt vs 1; hi = natAt vs 2 };
   values = λ o. opLine o .values;
-  answer = opAnswer types;
+  answer = opAnswer types horizon;
 }
 
 -- `edge=i,j,d,b`, where i and j are below the count of operations; d may carry a minus

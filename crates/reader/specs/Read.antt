@@ -1,4 +1,4 @@
--- What reading a sheet gives, for every byte string: 1, then line by line 2 before 3, or the sheet.
+-- What reading a sheet gives, for every byte string: 1, then line by line 2 before what the entry answers, or the sheet.
 use Prim.Native.Nat.{ℕ}
 use mathlib.Core.List.{List, [], _∷_}
 use mathlib.Core.Bool.{cond}
@@ -34,7 +34,7 @@ sheetFrom bs =
     andThen (lineFrom horizonKind bs) (λ horizon bs.
     andThen (lineFrom capKind bs) (λ cap bs.
     andThen (sectionFrom typesKind typeKind bs) (λ types bs.
-    andThen (sectionFrom opsKind (opKind (length types)) bs) (λ ops bs.
+    andThen (sectionFrom opsKind (opKind (length types) horizon) bs) (λ ops bs.
     andThen (sectionFrom edgesKind (edgeKind (length ops)) bs) (λ edges bs.
     found (sheetOf horizon cap types ops edges) bs)))))
 
@@ -60,7 +60,7 @@ noSheet = sheetOf 0 0 [] [] []
 abbrev pub refusal : ℕ → ReadAnswer
 refusal n = record { answer = n; sheet = noSheet }
 
--- questions 1 to 3 got a yes: 0 and the sheet
+-- every question got a yes: 0 and the sheet
 abbrev pub accepted : Sheet → ReadAnswer
 accepted s = record { answer = 0; sheet = s }
 

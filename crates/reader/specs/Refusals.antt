@@ -32,7 +32,7 @@ pub record Answers (P : ℕ → Type 0) : Type 0 where
   pub malformed : P 2
   pub number : (field n : ℕ) → (numberAnswer field n ≡ 0 → ⊥) → P (numberAnswer field n)
   pub type-entry : (t : ResourceType) → (typeAnswer t ≡ 0 → ⊥) → P (typeAnswer t)
-  pub op-entry : (types : ℕ) (o : Operation) → (opAnswer types o ≡ 0 → ⊥) → P (opAnswer types o)
+  pub op-entry : (types horizon : ℕ) (o : Operation) → (opAnswer types horizon o ≡ 0 → ⊥) → P (opAnswer types horizon o)
   pub edge-entry : (ops : ℕ) (e : Edge) → (edgeAnswer ops e ≡ 0 → ⊥) → P (edgeAnswer ops e)
 
 module _ {P : ℕ → Type 0} (each : Answers P) where
@@ -71,7 +71,7 @@ module _ {P : ℕ → Type 0} (each : Answers P) where
       then-holds (lineFrom horizonKind bs) _ (line-holds horizonKind (each .number range.horizon) bs) (λ horizon bs₁.
       then-holds (lineFrom capKind bs₁) _ (line-holds capKind (each .number range.cap) bs₁) (λ cap bs₂.
       then-holds (sectionFrom typesKind typeKind bs₂) _ (section-holds typesKind (each .number range.types) typeKind (each .type-entry) bs₂) (λ types bs₃.
-      then-holds (sectionFrom opsKind (opKind (length types)) bs₃) _ (section-holds opsKind (each .number range.operations) (opKind (length types)) (each .op-entry (length types)) bs₃) (λ ops bs₄.
+      then-holds (sectionFrom opsKind (opKind (length types) horizon) bs₃) _ (section-holds opsKind (each .number range.operations) (opKind (length types) horizon) (each .op-entry (length types) horizon) bs₃) (λ ops bs₄.
       then-holds (sectionFrom edgesKind (edgeKind (length ops)) bs₄) _ (section-holds edgesKind (each .number range.edges) (edgeKind (length ops)) (each .edge-entry (length ops)) bs₄) (λ edges bs₅. tt)))))
 
   end-holds : (x : Found Sheet) → OnRefusal P x → OnRefusal P (toTheEnd x)
@@ -98,7 +98,7 @@ numbered = record {
   malformed = omega arith;
   number = λ field n. some (numberAnswer field n);
   type-entry = λ t. some (typeAnswer t);
-  op-entry = λ types o. some (opAnswer types o);
+  op-entry = λ types horizon o. some (opAnswer types horizon o);
   edge-entry = λ ops e. some (edgeAnswer ops e);
 }
 

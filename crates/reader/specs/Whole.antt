@@ -41,11 +41,11 @@ module _ (bs : List ℕ) (h : length bs ≤ longestSheet) where
       stops-types n b e = rw (le-ltb longestSheet (length bs) h, e₁, e₂, e)
 
       module _ (types : List ResourceType) (b₃ : List ℕ) (e₃ : sectionFrom typesKind typeKind b₂ ≡ found types b₃) (r : ℕ) (q : length types ≡ r) where
-        pub stops-ops : (n : ℕ) (b : List ℕ) → sectionFrom opsKind (opKind r) b₃ ≡ refused n b → wholeFrom bs ≡ refused n b
+        pub stops-ops : (n : ℕ) (b : List ℕ) → sectionFrom opsKind (opKind r horizon) b₃ ≡ refused n b → wholeFrom bs ≡ refused n b
         unfolding wholeFrom sheetFrom
         stops-ops n b e = rw (le-ltb longestSheet (length bs) h, e₁, e₂, e₃, q, e)
 
-        module _ (ops : List Operation) (b₄ : List ℕ) (e₄ : sectionFrom opsKind (opKind r) b₃ ≡ found ops b₄) (m : ℕ) (p : length ops ≡ m) where
+        module _ (ops : List Operation) (b₄ : List ℕ) (e₄ : sectionFrom opsKind (opKind r horizon) b₃ ≡ found ops b₄) (m : ℕ) (p : length ops ≡ m) where
           pub stops-edges : (n : ℕ) (b : List ℕ) → sectionFrom edgesKind (edgeKind m) b₄ ≡ refused n b → wholeFrom bs ≡ refused n b
           unfolding wholeFrom sheetFrom
           stops-edges n b e = rw (le-ltb longestSheet (length bs) h, e₁, e₂, e₃, q, e₄, p, e)

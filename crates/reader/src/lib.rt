@@ -113,7 +113,7 @@ fn read_whole(bytes: &[u8]) -> SheetRead
     if types.answer != 0 {
         return refuse(types.answer, types.next);
     }
-    let ops = read_ops(bytes, types.next, types.count);
+    let ops = read_ops(bytes, types.next, types.count, horizon.value);
     if ops.answer != 0 {
         return refuse(ops.answer, ops.next);
     }

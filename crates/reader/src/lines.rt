@@ -100,12 +100,12 @@ pub struct OpRead {
     pub next: usize,
 }
 
-// The line `op=r`, where r is below the count of types.
-pub fn read_op(s: &[u8], at: usize, types: usize) -> OpRead
+// The line `op=r,lo,hi`, where r is below the count of types, lo and hi below the horizon.
+pub fn read_op(s: &[u8], at: usize, types: usize, horizon: usize) -> OpRead
     requires { ⌜ at ≤ length (now s) ⌝ }
-    ensures { λ r. ⌜ Reads (now (s .entry)) (r .answer) (r .entry) (r .next) (lineFrom (opKind types) (drop at (now (s .entry)))) ⌝ }
+    ensures { λ r. ⌜ Reads (now (s .entry)) (r .answer) (r .entry) (r .next) (lineFrom (opKind types horizon) (drop at (now (s .entry)))) ⌝ }
 {
-    let line = scan::read_line(s, at, b"op=", 1, NO_MINUS);
+    let line = scan::read_line(s, at, b"op=", 3, NO_MINUS);
     if !line.ok {
         return OpRead {
             answer: MALFORMED,
@@ -116,8 +116,10 @@ pub fn read_op(s: &[u8], at: usize, types: usize) -> OpRead
     let values = line.values;
     let entry = Operation {
         resource: values[0] as usize,
+        lo: values[1] as usize,
+        hi: values[2] as usize,
     };
-    let answer = sheet::op_answer(types, entry);
+    let answer = sheet::op_answer(types, horizon, entry);
     if answer != 0 {
         return OpRead {
             answer,

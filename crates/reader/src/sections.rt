@@ -101,15 +101,15 @@ fn no_ops(answer: usize, at: usize) -> OpsRead
 }
 
 // Count lines of operations, from `at`.
-fn op_lines(s: &[u8], at: usize, count: usize, types: usize) -> OpsRead
+fn op_lines(s: &[u8], at: usize, count: usize, types: usize, horizon: usize) -> OpsRead
     requires { ⌜ (at ≤ length (now s)) × (count ≤ mostOperations) ⌝ }
-    ensures { λ r. ⌜ Entries mostOperations noOperation (now (s .entry)) (r .answer) (r .count) (r .entries) (r .next) (linesFrom (opKind types) count [] (drop at (now (s .entry)))) ⌝ }
+    ensures { λ r. ⌜ Entries mostOperations noOperation (now (s .entry)) (r .answer) (r .count) (r .entries) (r .next) (linesFrom (opKind types horizon) count [] (drop at (now (s .entry)))) ⌝ }
 {
     let mut entries = [NO_OPERATION; MOST_OPERATIONS];
     let mut p = at;
     let mut i: usize = 0;
     while i < count {
-        let line = read_op(s, p, types);
+        let line = read_op(s, p, types, horizon);
         if line.answer != 0 {
             return no_ops(line.answer, line.next);
         }
@@ -127,15 +127,15 @@ fn op_lines(s: &[u8], at: usize, count: usize, types: usize) -> OpsRead
 }
 
 // The line `ops=` with a count, and that many lines of operations.
-pub fn read_ops(s: &[u8], at: usize, types: usize) -> OpsRead
+pub fn read_ops(s: &[u8], at: usize, types: usize, horizon: usize) -> OpsRead
     requires { ⌜ at ≤ length (now s) ⌝ }
-    ensures { λ r. ⌜ Entries mostOperations noOperation (now (s .entry)) (r .answer) (r .count) (r .entries) (r .next) (sectionFrom opsKind (opKind types) (drop at (now (s .entry)))) ⌝ }
+    ensures { λ r. ⌜ Entries mostOperations noOperation (now (s .entry)) (r .answer) (r .count) (r .entries) (r .next) (sectionFrom opsKind (opKind types horizon) (drop at (now (s .entry)))) ⌝ }
 {
     let count = read_number(s, at, b"ops=", OPERATIONS);
     if count.answer != 0 {
         return no_ops(count.answer, count.next);
     }
-    op_lines(s, count.next, count.value, types)
+    op_lines(s, count.next, count.value, types, horizon)
 }
 
 pub struct EdgesRead {

@@ -20,7 +20,7 @@ few = record {
   malformed = omega arith;
   number = λ field n z. let h = number-judged field n .few in omega arith;
   type-entry = λ t z. let h = type-judged t .few in omega arith;
-  op-entry = λ types o z. let h = op-judged types o .few in omega arith;
+  op-entry = λ types horizon o z. let h = op-judged types horizon o .few in omega arith;
   edge-entry = λ ops e z. let h = edge-judged ops e .few in omega arith;
 }
 

@@ -59,18 +59,26 @@ type-lawful = record {
   writable = λ t e. let x = type-judged t .accepted e in (inside-short (x .instances), refl, (inside-short (x .latency), refl, tt));
 }
 
-module _ (types : ℕ) (few : types ≤ fourDigits) where
-  op-forth : (vs : List ℤ) → length vs ≡ 1 → Writable noMinus 0 vs → opKind types .values (opKind types .make vs) ≡ vs
+module _ (types horizon : ℕ) (few : types ≤ fourDigits) (near : horizon ≤ fourDigits) where
+  op-forth : (vs : List ℤ) → length vs ≡ 3 → Writable noMinus 0 vs → opKind types horizon .values (opKind types horizon .make vs) ≡ vs
   op-forth [] e w = absurd (omega arith)
-  op-forth (v ∷ []) e w = ap (λ (z : ℤ). z ∷ []) (sym (plain-nat v (w .1)))
-  op-forth (v ∷ x ∷ vs) e w = absurd (omega arith)
+  op-forth (a ∷ []) e w = absurd (omega arith)
+  op-forth (a ∷ b ∷ []) e w = absurd (omega arith)
+  op-forth (a ∷ b ∷ c ∷ []) e w =
+      λ i. sym (plain-nat a (w .1)) i ∷ sym (plain-nat b (w .2 .1)) i ∷ sym (plain-nat c (w .2 .2 .1)) i ∷ []
+  op-forth (a ∷ b ∷ c ∷ x ∷ vs) e w = absurd (omega arith)
 
-  pub op-lawful : Lawful (opKind types)
+  pub op-lawful : Lawful (opKind types horizon)
   op-lawful = record {
     size = λ o. refl;
     back = λ o. refl;
     forth = op-forth;
-    writable = λ o e. let x = op-judged types o .accepted e .resource in (omega arith, refl, tt);
+    writable = λ o e.
+        let x = op-judged types horizon o .accepted e .0 in
+        let r = x .resource in
+        let l = x .lo in
+        let h = x .hi in
+        (omega arith, refl, (omega arith, refl, (omega arith, refl, tt)));
   }
 
 module _ (ops : ℕ) (few : ops ≤ fourDigits) where

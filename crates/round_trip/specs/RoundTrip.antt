@@ -3,13 +3,13 @@
 -- Assumes nothing.
 use mathlib.Core.Path.{_≡_, refl, sym, ap, subst, _∙_}
 use mathlib.Core.List.{List, [], _∷_, _++_, map, append-nil}
-use Prim.Native.Nat.{ℕ, _+_, _*_, _-_, _≤_}
+use Prim.Native.Nat.{ℕ, _+_, _*_, _-_, _<_, _≤_}
 use native.Mathlib.Omega.{arith}
 use lib.Dec.{ltb}
 use lib.ListN.{length, take, getD, replicate, length-append, length-replicate, List·getD-append}
 use lib.Seq.{take-append-seam, length-take-le}
 use borrow.Author.Tests.{ltb-true, ltb-false}
-use Rattle.sizes.specs.Sizes.{mostTypes, mostOperations, mostEdges}
+use Rattle.sizes.specs.Sizes.{mostStarts, mostTypes, mostOperations, mostEdges}
 use Rattle.text.specs.Lines.{linesText, countLine}
 use Rattle.text.specs.Filling.{lines-append}
 use Rattle.text.specs.Keys as key
@@ -21,7 +21,7 @@ use Rattle.sheet.specs.declared.Operation.{Operation}
 use Rattle.sheet.specs.declared.ResourceType.{ResourceType}
 use Rattle.sheet.specs.Facts.{most}
 use Rattle.sheet.specs.Ranges as range
-use Rattle.sheet.specs.Sheet.{noType, noOperation, TypeInRange, OpInRange, EdgeInRange, InRange}
+use Rattle.sheet.specs.Sheet.{noType, noOperation, TypeInRange, OpInRange, NonEmptyWindow, EdgeInRange, InRange}
 use Rattle.sheet.specs.Text.{typeLine, opLine, edgeLine, sheetLines, sheetText}
 use Rattle.reader.specs.declared.ReadAnswer.{ReadAnswer}
 use Rattle.reader.specs.Found.{Found, found, refused, Kind, lineFrom, sectionFrom, padded}
@@ -44,7 +44,7 @@ listsText horizon cap r types n ops m edges =
     entryText horizonKind horizon ++ (
     entryText capKind cap ++ (
     entryText typesKind r ++ (entriesText typeKind types ++ (
-    entryText opsKind n ++ (entriesText (opKind r) ops ++ (
+    entryText opsKind n ++ (entriesText (opKind r horizon) ops ++ (
     entryText edgesKind m ++ entriesText (edgeKind n) edges))))))
 
 sheet-lists : (s : Sheet)
@@ -69,10 +69,13 @@ record Good (horizon cap r : ℕ) (types : List ResourceType) (n : ℕ) (ops : L
   each-type : AllInside typeKind types
   ops-in : opsKind .answer n ≡ 0
   ops-count : length ops ≡ n
-  each-op : AllInside (opKind r) ops
+  each-op : AllInside (opKind r horizon) ops
   edges-in : edgesKind .answer m ≡ 0
   edges-count : length edges ≡ m
   each-edge : AllInside (edgeKind n) edges
+
+horizon-near : (h : ℕ) → horizonKind .answer h ≡ 0 → h ≤ mostStarts
+horizon-near h e = most (number-judged range.horizon h .accepted e)
 
 types-few : (r : ℕ) → typesKind .answer r ≡ 0 → r ≤ mostTypes
 types-few r e = most (number-judged range.types r .accepted e)
@@ -83,8 +86,8 @@ ops-few n e = most (number-judged range.operations n .accepted e)
 edges-few : (m : ℕ) → edgesKind .answer m ≡ 0 → m ≤ mostEdges
 edges-few m e = most (number-judged range.edges m .accepted e)
 
-ops-lawful : (r : ℕ) → typesKind .answer r ≡ 0 → Lawful (opKind r)
-ops-lawful r e = op-lawful r (omega (arith, types-few r e))
+ops-lawful : (r horizon : ℕ) → typesKind .answer r ≡ 0 → horizonKind .answer horizon ≡ 0 → Lawful (opKind r horizon)
+ops-lawful r horizon e h = op-lawful r horizon (omega (arith, types-few r e)) (omega (arith, horizon-near horizon h))
 
 edges-lawful : (n : ℕ) → opsKind .answer n ≡ 0 → Lawful (edgeKind n)
 edges-lawful n e = edge-lawful n (omega (arith, ops-few n e))
@@ -99,7 +102,7 @@ module _ {horizon cap r : ℕ} {types : List ResourceType} {n : ℕ} {ops : List
       let a₃ : length (entryText typesKind r) ≤ 12 = entry-length typesKind (number-lawful key.typesKey range.types) r (g .types-in) in
       let a₄ : length (entriesText typeKind types) ≤ 17 * length types = entries-length typeKind type-lawful types (g .each-type) in
       let a₅ : length (entryText opsKind n) ≤ 10 = entry-length opsKind (number-lawful key.opsKey range.operations) n (g .ops-in) in
-      let a₆ : length (entriesText (opKind r) ops) ≤ 9 * length ops = entries-length (opKind r) (ops-lawful r (g .types-in)) ops (g .each-op) in
+      let a₆ : length (entriesText (opKind r horizon) ops) ≤ 21 * length ops = entries-length (opKind r horizon) (ops-lawful r horizon (g .types-in) (g .horizon-in)) ops (g .each-op) in
       let a₇ : length (entryText edgesKind m) ≤ 12 = entry-length edgesKind (number-lawful key.edgesKey range.edges) m (g .edges-in) in
       let a₈ : length (entriesText (edgeKind n) edges) ≤ 29 * length edges = entries-length (edgeKind n) (edges-lawful n (g .ops-in)) edges (g .each-edge) in
       let b₁ = types-few r (g .types-in) in
@@ -123,7 +126,7 @@ module _ {horizon cap r : ℕ} {types : List ResourceType} {n : ℕ} {ops : List
       horizon _ (reads-entry horizonKind (number-lawful key.horizonKey range.horizon) horizon _ (g .horizon-in))
       cap _ (reads-entry capKind (number-lawful key.capKey range.cap) cap _ (g .cap-in))
       types _ (section typesKind (number-lawful key.typesKey range.types) typeKind type-lawful r types _ (g .types-in) (g .types-count) (g .each-type)) r (g .types-count)
-      ops _ (section opsKind (number-lawful key.opsKey range.operations) (opKind r) (ops-lawful r (g .types-in)) n ops _ (g .ops-in) (g .ops-count) (g .each-op)) n (g .ops-count)
+      ops _ (section opsKind (number-lawful key.opsKey range.operations) (opKind r horizon) (ops-lawful r horizon (g .types-in) (g .horizon-in)) n ops _ (g .ops-in) (g .ops-count) (g .each-op)) n (g .ops-count)
       edges []
       (ap (λ (l : List ℕ). sectionFrom edgesKind (edgeKind n) (entryText edgesKind m ++ l)) (sym (append-nil (entriesText (edgeKind n) edges)))
       ∙ section edgesKind (number-lawful key.edgesKey range.edges) (edgeKind n) (edges-lawful n (g .ops-in)) m edges [] (g .edges-in) (g .edges-count) (g .each-edge))
@@ -145,8 +148,8 @@ module _ (s : Sheet) (long : Arrays s) (ok : InRange s) where
         each-type = all-take (λ a. typeKind .answer a ≡ 0) noType (s .types) (s .«type_count») t (λ i h. type-judged (getD (s .types) i noType) .accepts (ok .eachType i h));
         ops-in = number-judged range.operations (s .«op_count») .accepts (ok .counts .ops);
         ops-count = length-take-le (s .«op_count») (s .ops) o;
-        each-op = all-take (λ a. opKind (s .«type_count») .answer a ≡ 0) noOperation (s .ops) (s .«op_count») o
-            (λ i h. op-judged (s .«type_count») (getD (s .ops) i noOperation) .accepts (ok .eachOp i h));
+        each-op = all-take (λ a. opKind (s .«type_count») (s .horizon) .answer a ≡ 0) noOperation (s .ops) (s .«op_count») o
+            (λ i h. op-judged (s .«type_count») (s .horizon) (getD (s .ops) i noOperation) .accepts (ok .eachOp i h, ok .eachWindow i h));
         edges-in = number-judged range.edges (s .«edge_count») .accepts (ok .counts .edges);
         edges-count = length-take-le (s .«edge_count») (s .edges) e;
         each-edge = all-take (λ a. edgeKind (s .«op_count») .answer a ≡ 0) noEdge (s .edges) (s .«edge_count») e
@@ -177,6 +180,9 @@ module _ (horizon cap : ℕ) (types : List ResourceType) (ops : List Operation) 
     edges = padded-length mostEdges noEdge edges (edges-few (length edges) (g .edges-in));
   }
 
+  made-op : (i : ℕ) → i < length ops → OpInRange (length types) horizon (getD ops i noOperation) × NonEmptyWindow (getD ops i noOperation)
+  made-op i h = op-judged (length types) horizon (getD ops i noOperation) .accepted (all-at (λ a. opKind (length types) horizon .answer a ≡ 0) noOperation ops (g .each-op) i h)
+
   made-in-range : InRange (sheetOf horizon cap types ops edges)
   made-in-range = record {
     counts = record {
@@ -188,8 +194,8 @@ module _ (horizon cap : ℕ) (types : List ResourceType) (ops : List Operation) 
     };
     eachType = λ i h. subst TypeInRange (sym (List·getD-append types (replicate (mostTypes - length types) noType) noType i h))
         (type-judged (getD types i noType) .accepted (all-at (λ a. typeKind .answer a ≡ 0) noType types (g .each-type) i h));
-    eachOp = λ i h. subst (OpInRange (length types)) (sym (List·getD-append ops (replicate (mostOperations - length ops) noOperation) noOperation i h))
-        (op-judged (length types) (getD ops i noOperation) .accepted (all-at (λ a. opKind (length types) .answer a ≡ 0) noOperation ops (g .each-op) i h));
+    eachOp = λ i h. subst (OpInRange (length types) horizon) (sym (List·getD-append ops (replicate (mostOperations - length ops) noOperation) noOperation i h)) (made-op i h .0);
+    eachWindow = λ i h. subst NonEmptyWindow (sym (List·getD-append ops (replicate (mostOperations - length ops) noOperation) noOperation i h)) (made-op i h .1);
     eachEdge = λ i h. subst (EdgeInRange (length ops)) (sym (List·getD-append edges (replicate (mostEdges - length edges) noEdge) noEdge i h))
         (edge-judged (length ops) (getD edges i noEdge) .accepted (all-at (λ a. edgeKind (length ops) .answer a ≡ 0) noEdge edges (g .each-edge) i h));
   }
@@ -212,11 +218,11 @@ module _ (bs : List ℕ) (z : readOf bs .answer ≡ 0) (h : length bs ≤ longes
   module _ (horizon : ℕ) (b₁ : List ℕ) (e₁ : lineFrom horizonKind bs ≡ found horizon b₁) where
     module _ (cap : ℕ) (b₂ : List ℕ) (e₂ : lineFrom capKind b₁ ≡ found cap b₂) where
       module _ (types : List ResourceType) (b₃ : List ℕ) (e₃ : sectionFrom typesKind typeKind b₂ ≡ found types b₃) where
-        module _ (ops : List Operation) (b₄ : List ℕ) (e₄ : sectionFrom opsKind (opKind (length types)) b₃ ≡ found ops b₄) where
+        module _ (ops : List Operation) (b₄ : List ℕ) (e₄ : sectionFrom opsKind (opKind (length types) horizon) b₃ ≡ found ops b₄) where
           at-end : (edges : List Edge) → sectionFrom edgesKind (edgeKind (length ops)) b₄ ≡ found edges [] → Accepted bs
           at-end edges e₅ =
               let st = section-text typesKind (number-lawful key.typesKey range.types) typeKind type-lawful b₂ types b₃ e₃ in
-              let so = section-text opsKind (number-lawful key.opsKey range.operations) (opKind (length types)) (ops-lawful (length types) (st .count)) b₃ ops b₄ e₄ in
+              let so = section-text opsKind (number-lawful key.opsKey range.operations) (opKind (length types) horizon) (ops-lawful (length types) horizon (st .count) (line-inside horizonKind bs horizon b₁ e₁)) b₃ ops b₄ e₄ in
               let se = section-text edgesKind (number-lawful key.edgesKey range.edges) (edgeKind (length ops)) (edges-lawful (length ops) (so .count)) b₄ edges [] e₅ in
               let g : Good horizon cap (length types) types (length ops) ops (length edges) edges = record {
                 horizon-in = line-inside horizonKind bs horizon b₁ e₁;
@@ -235,7 +241,7 @@ module _ (bs : List ℕ) (z : readOf bs .answer ≡ 0) (h : length bs ≤ longes
               entry-text horizonKind (number-lawful key.horizonKey range.horizon) bs horizon b₁ e₁ ∙ ap (λ (l : List ℕ). entryText horizonKind horizon ++ l)
               (entry-text capKind (number-lawful key.capKey range.cap) b₁ cap b₂ e₂ ∙ ap (λ (l : List ℕ). entryText capKind cap ++ l)
               (st .text ∙ ap (λ (l : List ℕ). entryText typesKind (length types) ++ (entriesText typeKind types ++ l))
-              (so .text ∙ ap (λ (l : List ℕ). entryText opsKind (length ops) ++ (entriesText (opKind (length types)) ops ++ l))
+              (so .text ∙ ap (λ (l : List ℕ). entryText opsKind (length ops) ++ (entriesText (opKind (length types) horizon) ops ++ l))
               (se .text ∙ ap (λ (l : List ℕ). entryText edgesKind (length edges) ++ l) (append-nil (entriesText (edgeKind (length ops)) edges)))))) in
               record {
                 sheet = sheetOf horizon cap types ops edges;
@@ -252,13 +258,13 @@ module _ (bs : List ℕ) (z : readOf bs .answer ≡ 0) (h : length bs ≤ longes
           at-edges (found edges (x ∷ xs)) e =
               absurd (not-refused bs z (something-more bs h horizon b₁ e₁ cap b₂ e₂ types b₃ e₃ (length types) refl ops b₄ e₄ (length ops) refl edges (x ∷ xs) e x xs refl))
 
-        at-ops : (f : Found (List Operation)) → sectionFrom opsKind (opKind (length types)) b₃ ≡ f → Accepted bs
+        at-ops : (f : Found (List Operation)) → sectionFrom opsKind (opKind (length types) horizon) b₃ ≡ f → Accepted bs
         at-ops (refused n b) e = absurd (not-refused bs z (stops-ops bs h horizon b₁ e₁ cap b₂ e₂ types b₃ e₃ (length types) refl n b e))
         at-ops (found ops b₄) e = at-edges ops b₄ e (sectionFrom edgesKind (edgeKind (length ops)) b₄) refl
 
       at-types : (f : Found (List ResourceType)) → sectionFrom typesKind typeKind b₂ ≡ f → Accepted bs
       at-types (refused n b) e = absurd (not-refused bs z (stops-types bs h horizon b₁ e₁ cap b₂ e₂ n b e))
-      at-types (found types b₃) e = at-ops types b₃ e (sectionFrom opsKind (opKind (length types)) b₃) refl
+      at-types (found types b₃) e = at-ops types b₃ e (sectionFrom opsKind (opKind (length types) horizon) b₃) refl
 
     at-cap : (f : Found ℕ) → lineFrom capKind b₁ ≡ f → Accepted bs
     at-cap (refused n b) e = absurd (not-refused bs z (stops-cap bs h horizon b₁ e₁ n b e))

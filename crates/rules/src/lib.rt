@@ -8,21 +8,30 @@ ghost use Rattle.plan.specs.Rules.{InstanceAllowed, Rivals, Overlap, slot};
 
 mod starts;
 
+use sheet::NO_OPERATION;
 use sheet::NO_TYPE;
+use sheet::Operation;
 use sheet::ResourceType;
 use sheet::Sheet;
 use sizes::MOST_OPERATIONS;
 use sizes::MOST_TYPES;
 pub use starts::allowed_starts;
 
+// An operation with its numbers; past the array they are 0.
+fn operation_of(sheet: Sheet, op: usize) -> Operation
+    ensures { λ r. ⌜ r ≡ opAt sheet op ⌝ }
+{
+    if MOST_OPERATIONS <= op {
+        return NO_OPERATION;
+    }
+    sheet.ops[op]
+}
+
 // The type of an operation; past the array it is 0.
 pub fn resource_of(sheet: Sheet, op: usize) -> usize
     ensures { λ r. ⌜ r ≡ opAt sheet op .resource ⌝ }
 {
-    if MOST_OPERATIONS <= op {
-        return 0;
-    }
-    let operation = sheet.ops[op];
+    let operation = operation_of(sheet, op);
     operation.resource
 }
 

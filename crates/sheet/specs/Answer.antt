@@ -8,7 +8,7 @@ use Rattle.sheet.specs.declared.Operation.{Operation}
 use Rattle.sheet.specs.declared.ResourceType.{ResourceType}
 use Rattle.sheet.specs.Ranges as range
 use Rattle.sheet.specs.Sheet.{typeAt, opAt, edgeAt}
-use Rattle.sheet.specs.Decide.{inside-decided, type-decided, op-decided, edge-decided}
+use Rattle.sheet.specs.Decide.{inside-decided, type-decided, op-decided, window-decided, edge-decided}
 
 -- a question: its number at a no, and what follows at a yes
 abbrev pub ask : {P : Type 0} → Dec P → ℕ → ℕ → ℕ
@@ -35,9 +35,9 @@ numberAnswer field n = ask (inside-decided field (pos n)) 3 0
 unfoldable pub typeAnswer : ResourceType → ℕ
 typeAnswer t = ask (type-decided t) 3 0
 
--- `op=r`, with R types
-unfoldable pub opAnswer : ℕ → Operation → ℕ
-opAnswer types o = ask (op-decided types o) 3 0
+-- `op=r,lo,hi`, with R types and the horizon H
+unfoldable pub opAnswer : ℕ → ℕ → Operation → ℕ
+opAnswer types horizon o = ask (op-decided types horizon o) 3 (ask (window-decided o) 16 0)
 
 -- `edge=i,j,d,b`, with N operations
 unfoldable pub edgeAnswer : ℕ → Edge → ℕ
@@ -51,7 +51,7 @@ typesAnswer s = first (numberAnswer range.types (s .«type_count»)) (firstOf (s
 
 -- `ops=N`, then N lines
 abbrev pub opsAnswer : Sheet → ℕ
-opsAnswer s = first (numberAnswer range.operations (s .«op_count»)) (firstOf (s .«op_count») (λ i. opAnswer (s .«type_count») (opAt s i)))
+opsAnswer s = first (numberAnswer range.operations (s .«op_count»)) (firstOf (s .«op_count») (λ i. opAnswer (s .«type_count») (s .horizon) (opAt s i)))
 
 -- `edges=E`, then E lines
 abbrev pub edgesAnswer : Sheet → ℕ

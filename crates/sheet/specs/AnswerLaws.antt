@@ -12,8 +12,8 @@ use Rattle.sheet.specs.declared.Sheet.{Sheet}
 use Rattle.sheet.specs.declared.Operation.{Operation}
 use Rattle.sheet.specs.declared.ResourceType.{ResourceType}
 use Rattle.sheet.specs.Ranges as range
-use Rattle.sheet.specs.Sheet.{typeAt, opAt, edgeAt, TypeInRange, OpInRange, EdgeInRange, InRange}
-use Rattle.sheet.specs.Decide.{inside-decided, type-decided, op-decided, edge-decided}
+use Rattle.sheet.specs.Sheet.{typeAt, opAt, edgeAt, TypeInRange, OpInRange, NonEmptyWindow, EdgeInRange, InRange}
+use Rattle.sheet.specs.Decide.{inside-decided, type-decided, op-decided, window-decided, edge-decided}
 use Rattle.sheet.specs.Answer.{ask, first, firstOf, numberAnswer, typeAnswer, opAnswer, edgeAnswer, typesAnswer, opsAnswer, edgesAnswer, sheetAnswer}
 
 -- ---- one question
@@ -74,13 +74,20 @@ pub type-out : (t : ResourceType) → (TypeInRange t → ⊥) → typeAnswer t �
 unfolding typeAnswer
 type-out t n = ask-no (type-decided t) 3 0 n
 
-pub op-judged : (types : ℕ) (o : Operation) → Judges (OpInRange types o) (opAnswer types o)
+pub op-judged : (types horizon : ℕ) (o : Operation) → Judges (OpInRange types horizon o × NonEmptyWindow o) (opAnswer types horizon o)
 unfolding opAnswer
-op-judged types o = three (op-decided types o)
+op-judged types horizon o =
+    judges (λ x. (x .0, x .1 .0)) (λ x. (x .0, (x .1, tt)))
+    (question (op-decided types horizon o) 3 (omega arith) (omega arith) (question (window-decided o) 16 (omega arith) (omega arith) no-question))
 
-pub op-out : (types : ℕ) (o : Operation) → (OpInRange types o → ⊥) → opAnswer types o ≡ 3
+pub op-out : (types horizon : ℕ) (o : Operation) → (OpInRange types horizon o → ⊥) → opAnswer types horizon o ≡ 3
 unfolding opAnswer
-op-out types o n = ask-no (op-decided types o) 3 0 n
+op-out types horizon o n = ask-no (op-decided types horizon o) 3 (ask (window-decided o) 16 0) n
+
+-- 16 comes after 3 in the same line
+pub op-empty : (types horizon : ℕ) (o : Operation) → OpInRange types horizon o → (NonEmptyWindow o → ⊥) → opAnswer types horizon o ≡ 16
+unfolding opAnswer
+op-empty types horizon o i n = ask-yes (op-decided types horizon o) 3 (ask (window-decided o) 16 0) i ∙ ask-no (window-decided o) 16 0 n
 
 pub edge-judged : (ops : ℕ) (e : Edge) → Judges (EdgeInRange ops e) (edgeAnswer ops e)
 unfolding edgeAnswer
@@ -175,7 +182,7 @@ module _ (s : Sheet) where
         number-judged range.types (s .«type_count») .accepts (c .types),
         first-all (λ r. typeAnswer (typeAt s r)) (s .«type_count») (λ r h. type-judged (typeAt s r) .accepts (ok .eachType r h)),
         number-judged range.operations (s .«op_count») .accepts (c .ops),
-        first-all (λ i. opAnswer (s .«type_count») (opAt s i)) (s .«op_count») (λ i h. op-judged (s .«type_count») (opAt s i) .accepts (ok .eachOp i h)),
+        first-all (λ i. opAnswer (s .«type_count») (s .horizon) (opAt s i)) (s .«op_count») (λ i h. op-judged (s .«type_count») (s .horizon) (opAt s i) .accepts (ok .eachOp i h, ok .eachWindow i h)),
         number-judged range.edges (s .«edge_count») .accepts (c .edges),
         first-all (λ k. edgeAnswer (s .«op_count») (edgeAt s k)) (s .«edge_count») (λ k h. edge-judged (s .«op_count») (edgeAt s k) .accepts (ok .eachEdge k h)),
       )
@@ -189,7 +196,7 @@ module _ (s : Sheet) where
       let e₂ : from-types ≡ 0 = first-right (numberAnswer range.cap (s .cap)) _ e₁ in
       let t = section-inside (numberAnswer range.types (s .«type_count»)) (s .«type_count») (λ r. typeAnswer (typeAt s r)) (first-left (typesAnswer s) from-ops e₂) in
       let e₃ : from-ops ≡ 0 = first-right (typesAnswer s) from-ops e₂ in
-      let o = section-inside (numberAnswer range.operations (s .«op_count»)) (s .«op_count») (λ i. opAnswer (s .«type_count») (opAt s i)) (first-left (opsAnswer s) (edgesAnswer s) e₃) in
+      let o = section-inside (numberAnswer range.operations (s .«op_count»)) (s .«op_count») (λ i. opAnswer (s .«type_count») (s .horizon) (opAt s i)) (first-left (opsAnswer s) (edgesAnswer s) e₃) in
       let d = section-inside (numberAnswer range.edges (s .«edge_count»)) (s .«edge_count») (λ k. edgeAnswer (s .«op_count») (edgeAt s k)) (first-right (opsAnswer s) (edgesAnswer s) e₃) in
       record {
         counts = record {
@@ -200,7 +207,8 @@ module _ (s : Sheet) where
           edges = number-judged range.edges (s .«edge_count») .accepted (d .0);
         };
         eachType = λ r l. type-judged (typeAt s r) .accepted (t .1 r l);
-        eachOp = λ i l. op-judged (s .«type_count») (opAt s i) .accepted (o .1 i l);
+        eachOp = λ i l. op-judged (s .«type_count») (s .horizon) (opAt s i) .accepted (o .1 i l) .0;
+        eachWindow = λ i l. op-judged (s .«type_count») (s .horizon) (opAt s i) .accepted (o .1 i l) .1;
         eachEdge = λ k l. edge-judged (s .«op_count») (edgeAt s k) .accepted (d .1 k l);
       }
 

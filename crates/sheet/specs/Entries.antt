@@ -65,9 +65,9 @@ module _ {s s' : Sheet} (e : SameSheet s s') where
   ops-answer-same : opsAnswer s ≡ opsAnswer s'
   ops-answer-same =
       ap (λ (x : ℕ). first (numberAnswer range.operations (s .«op_count»)) x)
-      (first-of-same (s .«op_count») (λ i. opAnswer (s .«type_count») (opAt s i)) (λ i. opAnswer (s' .«type_count») (opAt s' i))
-      (λ i h. ap₂ opAnswer (e .typeCount) (e .eachOp i h)))
-      ∙ ap (λ (n : ℕ). first (numberAnswer range.operations n) (firstOf n (λ i. opAnswer (s' .«type_count») (opAt s' i)))) (e .opCount)
+      (first-of-same (s .«op_count») (λ i. opAnswer (s .«type_count») (s .horizon) (opAt s i)) (λ i. opAnswer (s' .«type_count») (s' .horizon) (opAt s' i))
+      (λ i h. ap (λ (f : Operation → ℕ). f (opAt s i)) (ap₂ opAnswer (e .typeCount) (e .horizon)) ∙ ap (opAnswer (s' .«type_count») (s' .horizon)) (e .eachOp i h)))
+      ∙ ap (λ (n : ℕ). first (numberAnswer range.operations n) (firstOf n (λ i. opAnswer (s' .«type_count») (s' .horizon) (opAt s' i)))) (e .opCount)
 
   edges-answer-same : edgesAnswer s ≡ edgesAnswer s'
   edges-answer-same =

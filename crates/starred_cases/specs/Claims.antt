@@ -86,15 +86,15 @@ intervals m p = upTo (m - 1) (λ k. p (suc k))
 abbrev pub intervalTest : Sheet → ℕ → Bool
 intervalTest s L = both (leb 1 L) (leb L (s .cap))
 
--- questions 3 to 6 got a yes, and this is the first plan
+-- the sheet's questions and 4 to 6 got a yes, and this is the first plan
 abbrev pub givesTest : Sheet → ℕ → List ℕ → List ℕ → Bool
 givesTest s L ts us = both (sheetTest s) (both (intervalTest s L) (both (eqb (length ts) (s .«op_count»)) (both (eqb (length us) (s .«op_count»)) (firstTest s L ts us))))
 
--- questions 3 and 4 got a yes, and this is the first bad closed walk
+-- the sheet's questions and 4 got a yes, and this is the first bad closed walk
 abbrev pub walkTest : Sheet → ℕ → List ℕ → Bool
 walkTest s L ks = both (sheetTest s) (both (intervalTest s L) (both (leb (length ks) mostOperations) (firstWalkTest (graphOf s) L ks)))
 
--- questions 3 to 5 got a yes, as these starts meet the dependences, and there is no plan
+-- the sheet's questions, 4 and 5 got a yes, as these starts meet the dependences, and there is no plan
 abbrev pub denialTest : Sheet → ℕ → List ℕ → Bool
 denialTest s L ts = both (sheetTest s) (both (intervalTest s L) (both (meetsTest s L ts) (noPlanTest s L)))
 

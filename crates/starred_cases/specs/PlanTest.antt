@@ -20,13 +20,13 @@ use Rattle.sheet.specs.declared.Sheet.{Sheet}
 use Rattle.sheet.specs.Sheet.{InRange, typeOf, opAt, graphOf}
 use Rattle.sheet.specs.Answer.{sheetAnswer}
 use Rattle.sheet.specs.AnswerLaws.{sheet-inside}
-use Rattle.plan.specs.Rules.{Plan, StartAllowed}
+use Rattle.plan.specs.Rules.{Plan, InHorizon, InWindow, StartAllowed}
 use Rattle.plan.specs.Order.{Same, Less}
 use Rattle.plan.specs.Answers.{First}
 use Rattle.plan.specs.Local.{plan-local}
 use Rattle.plan.specs.Resource.{greatest}
 use Rattle.plan.specs.Total.{same-sym, same-trans}
-use Rattle.starred_cases.specs.Tests.{both, upTo, every, lexThen, sheetTest, meetsTest, instanceTest, clashTest, startTest, startsTest, instancesTest, apartTest, planTest, instancesBelow, plansTest, noPlanTest, firstTest}
+use Rattle.starred_cases.specs.Tests.{both, upTo, every, lexThen, sheetTest, meetsTest, instanceTest, clashTest, horizonTest, windowTest, startTest, startsTest, instancesTest, apartTest, planTest, instancesBelow, plansTest, noPlanTest, firstTest}
 use Rattle.starred_cases.specs.Lists.{up-at, up-show, every-at, listOf, list-length, list-at, lex-order}
 
 -- ---- the questions about the sheet
@@ -45,13 +45,26 @@ instance-show : (a u : ℕ) → (0 < a → u < a) → (a ≡ 0 → u ≡ 0) → 
 instance-show zero u l z = eq-eqb u 0 (z refl)
 instance-show (suc a) u l z = lt-ltb u (suc a) (l (omega arith))
 
+horizon-is : (H D t : ℕ) → horizonTest H D t ≡ true → InHorizon H D t
+horizon-is H D t e = let q = both-true (ltb t H) (leb (t + D) H) e in record { starts = ltb-true t H (q .0); finishes = leb-true (t + D) H (q .1) }
+
+window-is : (lo hi t : ℕ) → windowTest lo hi t ≡ true → InWindow lo hi t
+window-is lo hi t e = let q = both-true (leb lo t) (leb t hi) e in record { from = leb-true lo t (q .0); to = leb-true t hi (q .1) }
+
 start-is : (s : Sheet) (L i t : ℕ) → startTest s i t ≡ true → StartAllowed s L i t
 start-is s L i t e =
-    let q = both-true (ltb t (s .horizon)) (leb (t + typeOf s i .latency) (s .horizon)) e in
-    record { inHorizon = record { starts = ltb-true t (s .horizon) (q .0); finishes = leb-true (t + typeOf s i .latency) (s .horizon) (q .1) }; holds = tt }
+    let h = horizonTest (s .horizon) (typeOf s i .latency) t in
+    let w = windowTest (opAt s i .lo) (opAt s i .hi) t in
+    let q = both-true h w e in
+    record { inHorizon = horizon-is (s .horizon) (typeOf s i .latency) t (q .0); inWindow = window-is (opAt s i .lo) (opAt s i .hi) t (q .1); holds = tt }
 
 start-show : (s : Sheet) (L i t : ℕ) → StartAllowed s L i t → startTest s i t ≡ true
-start-show s L i t a = both-show (ltb t (s .horizon)) _ (lt-ltb t (s .horizon) (a .inHorizon .starts)) (le-leb (t + typeOf s i .latency) (s .horizon) (a .inHorizon .finishes))
+start-show s L i t a =
+    let h = a .inHorizon in
+    let w = a .inWindow in
+    let horizon : horizonTest (s .horizon) (typeOf s i .latency) t ≡ true = both-show (ltb t (s .horizon)) _ (lt-ltb t (s .horizon) (h .starts)) (le-leb (t + typeOf s i .latency) (s .horizon) (h .finishes)) in
+    let window : windowTest (opAt s i .lo) (opAt s i .hi) t ≡ true = both-show (leb (opAt s i .lo) t) _ (le-leb (opAt s i .lo) t (w .from)) (le-leb t (opAt s i .hi) (w .to)) in
+    both-show (horizonTest (s .horizon) (typeOf s i .latency) t) _ horizon window
 
 show-not : (b : Bool) → (b ≡ true → ⊥) → not b ≡ true
 show-not true n = absurd (n refl)

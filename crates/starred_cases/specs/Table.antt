@@ -1,7 +1,7 @@
 -- The starred cases of document 01: one table of claims about the rules. The sheets are as a reader gives them, with 0
 -- past their counts.
-use mathlib.Core.List.{List, [], _∷_}
-use Prim.Native.Nat.{ℕ}
+use mathlib.Core.List.{List, [], _∷_, map}
+use Prim.Native.Nat.{ℕ, _-_}
 use lib.IntN.{ℤ, pos, negsuc}
 use Rattle.dependence.specs.declared.Edge.{Edge}
 use Rattle.sheet.specs.declared.Sheet.{Sheet}
@@ -13,31 +13,36 @@ use Rattle.starred_cases.specs.Claims.{Claim, refuses-outside, refuses-w
 abbrev type : ℕ → ℕ → ResourceType
 type a d = record { instances = a; latency = d }
 
-abbrev op : ℕ → Operation
-op r = record { resource = r }
+-- of type r, with the window of the whole horizon
+abbrev op : ℕ → ℕ → Operation
+op horizon r = record { resource = r; lo = 0; hi = horizon - 1 }
 
 abbrev edge : ℕ → ℕ → ℤ → ℕ → Edge
 edge i j d b = record { from = i; to = j; delay = d; distance = b }
 
+-- the sheet with these operations by their types: lo is 0 and hi is H − 1 for each
+abbrev plain : ℕ → ℕ → List ResourceType → List ℕ → List Edge → Sheet
+plain horizon cap types kinds edges = sheetOf horizon cap types (map (op horizon) kinds) edges
+
 -- case A, and B with another horizon
 abbrev ring : ℕ → Sheet
-ring horizon = sheetOf horizon 4 (type 1 1 ∷ type 0 1 ∷ []) (op 0 ∷ op 1 ∷ op 0 ∷ []) (edge 0 1 (pos 0) 0 ∷ edge 1 2 (pos 0) 0 ∷ edge 2 0 (pos 0) 2 ∷ [])
+ring horizon = plain horizon 4 (type 1 1 ∷ type 0 1 ∷ []) (0 ∷ 1 ∷ 0 ∷ []) (edge 0 1 (pos 0) 0 ∷ edge 1 2 (pos 0) 0 ∷ edge 2 0 (pos 0) 2 ∷ [])
 
 -- two operations of one type, held exactly four clocks apart
 abbrev apart : Sheet
-apart = sheetOf 5 5 (type 1 1 ∷ []) (op 0 ∷ op 0 ∷ []) (edge 0 1 (pos 3) 0 ∷ edge 1 0 (negsuc 4) 0 ∷ [])
+apart = plain 5 5 (type 1 1 ∷ []) (0 ∷ 0 ∷ []) (edge 0 1 (pos 3) 0 ∷ edge 1 0 (negsuc 4) 0 ∷ [])
 
 -- one operation of latency d that depends on itself
 abbrev itself : ℕ → Sheet
-itself d = sheetOf 4 64 (type 1 d ∷ []) (op 0 ∷ []) (edge 0 0 (pos 0) 0 ∷ [])
+itself d = plain 4 64 (type 1 d ∷ []) (0 ∷ []) (edge 0 0 (pos 0) 0 ∷ [])
 
 -- three operations of a type with two instances
 abbrev three : ℕ → Sheet
-three horizon = sheetOf horizon 2 (type 2 1 ∷ []) (op 0 ∷ op 0 ∷ op 0 ∷ []) []
+three horizon = plain horizon 2 (type 2 1 ∷ []) (0 ∷ 0 ∷ 0 ∷ []) []
 
 -- one operation of latency 2
 abbrev alone : ℕ → Sheet
-alone horizon = sheetOf horizon 64 (type 1 2 ∷ []) (op 0 ∷ []) []
+alone horizon = plain horizon 64 (type 1 2 ∷ []) (0 ∷ []) []
 
 -- the claims of the starred cases in the order of 01, as the requests of 02 leave them; of case A also the answer at
 -- each interval that leastplan prints

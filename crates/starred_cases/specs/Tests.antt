@@ -62,9 +62,17 @@ clashTest s L ts us i j =
     (both (eqb (opAt s i .resource) (opAt s j .resource))
     (both (ltb 0 (typeOf s i .instances)) (both (eqb (vec us i) (vec us j)) (eqb (vec ts i % L) (vec ts j % L)))))
 
--- start: t is below H, and t plus D is at most H
+-- t is below H, and t plus D is at most H
+abbrev pub horizonTest : ℕ → ℕ → ℕ → Bool
+horizonTest H D t = both (ltb t H) (leb (t + D) H)
+
+-- t is from lo to hi
+abbrev pub windowTest : ℕ → ℕ → ℕ → Bool
+windowTest lo hi t = both (leb lo t) (leb t hi)
+
+-- start: inside the horizon and inside the window
 abbrev pub startTest : Sheet → ℕ → ℕ → Bool
-startTest s i t = both (ltb t (s .horizon)) (leb (t + typeOf s i .latency) (s .horizon))
+startTest s i t = both (horizonTest (s .horizon) (typeOf s i .latency) t) (windowTest (opAt s i .lo) (opAt s i .hi) t)
 
 -- start, for every operation
 abbrev pub startsTest : Sheet → List ℕ → Bool

@@ -10,7 +10,7 @@ use Rattle.dependence.specs.declared.loops.BadWalk as loops
 use Rattle.dependence.specs.declared.starts.Starts as starts
 use Rattle.dependence.specs.declared.bound.Bound as bounds
 use Rattle.sheet.specs.declared.Sheet.{Sheet}
-use Rattle.sheet.specs.Sheet.{Interval, graphOf}
+use Rattle.sheet.specs.Sheet.{Interval, opAt, graphOf}
 use Rattle.sheet.specs.Questions.{Asked, Is, OnSheet, AtInterval}
 use Rattle.sheet.specs.Loop.{Feasible, IfFeasible}
 
@@ -42,14 +42,14 @@ startsLoop n es = record { answer = 5; starts = zeros; «loop_length» = n; «lo
 abbrev pub startsGiven : List ℕ → starts.Starts
 startsGiven ts = record { answer = 0; starts = ts; «loop_length» = 0; «loop_edges» = zeros }
 
--- 0 with the earliest starts, all at least 0, and 0 past the operations
+-- 0 with the earliest starts, each at least its lo, and 0 past the operations
 pub record EarliestIn (s : Sheet) (L : ℕ) (a : starts.Starts) : Type 0 where
   pub starts : List ℕ
-  pub earliest : Earliest (graphOf s) L (λ i. 0) (vec starts)
+  pub earliest : Earliest (graphOf s) L (λ i. opAt s i .lo) (vec starts)
   pub rest : ZeroFrom (s .«op_count») starts
   pub pinned : a ≡ startsGiven starts
 
--- the sheet's questions, 4 and 5, then the earliest starts; the horizon plays no part
+-- the sheet's questions, 4 and 5, then the earliest starts; the horizon and every hi play no part
 abbrev pub StartsAt : Sheet → ℕ → starts.Starts → Type 0
 StartsAt s L = AtInterval startsRefused s L (IfFeasible startsLoop s L (EarliestIn s L))
 

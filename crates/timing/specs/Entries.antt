@@ -1,8 +1,8 @@
 -- Entries past R, N or E are no part of a sheet: sheets that differ only there get the same answers of the timing
 -- services. Assumes nothing.
-use mathlib.Core.Path.{_≡_, sym, subst, _∙_}
+use mathlib.Core.Path.{_≡_, sym, ap, subst, _∙_}
 use mathlib.Core.List.{List}
-use Prim.Native.Nat.{ℕ}
+use Prim.Native.Nat.{ℕ, _<_}
 use native.Mathlib.Omega.{arith}
 use lib.IntN.{ℤ}
 use lib.Signed.{_≤ℤ_}
@@ -13,17 +13,22 @@ use Rattle.dependence.specs.declared.loops.BadWalk as loops
 use Rattle.dependence.specs.declared.starts.Starts as starts
 use Rattle.dependence.specs.declared.bound.Bound as bounds
 use Rattle.sheet.specs.declared.Sheet.{Sheet}
-use Rattle.sheet.specs.Sheet.{InRange, graphOf}
+use Rattle.sheet.specs.declared.Operation.{Operation}
+use Rattle.sheet.specs.Sheet.{InRange, opAt, graphOf}
 use Rattle.sheet.specs.Questions.{at-no, at-yes}
 use Rattle.sheet.specs.Entries.{SameSheet, turn, range-same, interval-same, meets-same, chain-same, sum-same, feasible-same, on-sheet-same, at-interval-same, if-feasible-same}
 use Rattle.timing.specs.Answers.{withoutLoop, withLoop, startsRefused, startsLoop, tableRefused, boundRefused, EarliestIn, WalkAt, StartsAt, IfSeparations, SeparationsAt, SomeFeasible, IfSomeFeasible, RecurrenceAt}
 
+module _ {s s' : Sheet} (e : SameSheet s s') where
+  lo-same : {i : ℕ} → i < s .«op_count» → opAt s i .lo ≡ opAt s' i .lo
+  lo-same {i} h = ap (λ (o : Operation). o .lo) (e .eachOp i h)
+
 module _ {s s' : Sheet} (e : SameSheet s s') (ok : InRange s) {L : ℕ} where
-  earliest-same : {f t : ℕ → ℕ} → Earliest (graphOf s) L f t → Earliest (graphOf s') L f t
+  earliest-same : {t : ℕ → ℕ} → Earliest (graphOf s) L (λ i. opAt s i .lo) t → Earliest (graphOf s') L (λ i. opAt s' i .lo) t
   earliest-same x = record {
-    above = λ i h. x .above i (omega (arith, e .opCount));
+    above = λ i h. let l : i < s .«op_count» = omega (arith, e .opCount) in omega (arith, lo-same e l, x .above i l);
     meets = meets-same e ok (x .meets);
-    least = λ r o m i h. x .least r (λ j k. o j (omega (arith, e .opCount))) (meets-same (turn e) (range-same e ok) m) i (omega (arith, e .opCount));
+    least = λ r o m i h. x .least r (λ j k. omega (arith, lo-same e k, o j (omega (arith, e .opCount)))) (meets-same (turn e) (range-same e ok) m) i (omega (arith, e .opCount));
   }
 
   separation-same : {i j : ℕ} {z : ℤ} → Separation (graphOf s) L i j z → Separation (graphOf s') L i j z

@@ -1,6 +1,7 @@
 -- ---- definitions to believe
 pub mod Answers
 -- ---- laws
+pub mod Floors
 pub mod Served
 pub mod Unique
 pub mod Entries

@@ -7,7 +7,7 @@ use native.Mathlib.Decide.{ℕ-discrete, decLt}
 use native.Mathlib.Omega.{arith}
 use lib.IntN.{ℤ, pos, _+ℤ_}
 use lib.Signed.{_≤ℤ_}
-use Rattle.sizes.specs.Sizes.{mostOperations}
+use Rattle.sizes.specs.Sizes.{mostOperations, mostStarts}
 use Rattle.laws.specs.Entry.{vec}
 use Rattle.laws.specs.Pigeon.{find, pigeon}
 use Rattle.laws.specs.Store.{all-zero}
@@ -17,8 +17,8 @@ use Rattle.dependence.specs.declared.starts.Starts as starts
 use Rattle.dependence.specs.Graph.{InRange, Interval, edgeAt, totalOf, total, TotalOk, total-ok}
 use Rattle.dependence.specs.Rules.{Meets, Earliest}
 use Rattle.sheet.specs.declared.Sheet.{Sheet}
-use Rattle.sheet.specs.Sheet.{graphOf}
-use Rattle.sheet.specs.Facts.{graph-in-range, interval-in-range, ops-most}
+use Rattle.sheet.specs.Sheet.{opAt, graphOf}
+use Rattle.sheet.specs.Facts.{graph-in-range, interval-in-range, horizon-most, ops-most, lo-below}
 use Rattle.sheet.specs.Questions.{at-no, at-yes}
 use Rattle.timing.specs.Answers.{StartsAt}
 
@@ -26,9 +26,9 @@ use Rattle.timing.specs.Answers.{StartsAt}
 abbrev pub greatestTotal : ℕ
 greatestTotal = 96
 
--- no earliest start of a sheet is later: 2,304
+-- no earliest start of a sheet is later: 2,432
 abbrev pub latestStart : ℕ
-latestStart = mostOperations * greatestTotal
+latestStart = mostStarts + mostOperations * greatestTotal
 
 total-most : {l : ℕ} {d : ℤ} {b i : ℕ} → TotalOk l d b i → totalOf l d b i ≤ℤ pos greatestTotal
 total-most {l} {d} {b} {i} h = omega (arith, zed, sum (pos l) d, minus (pos l +ℤ d) (pos (b * i)), h .delay-high, h .latency-ok)
@@ -119,5 +119,5 @@ starts-most {s} {L} {a} (at-yes ok (at-yes iv (at-yes _ x))) i = pick (decLt i (
   where
     pick : Dec (i < s .«op_count») → vec (a .starts) i ≤ latestStart
     pick (yes l) =
-        omega (arith, starts-same (x .pinned) i, ops-most ok, earliest-most (graphOf s) L 0 (λ j. 0) (vec (x .starts)) (graph-in-range ok) (interval-in-range ok iv) (λ j h. omega arith) (x .earliest) i l)
+        omega (arith, starts-same (x .pinned) i, ops-most ok, earliest-most (graphOf s) L mostStarts (λ j. opAt s j .lo) (vec (x .starts)) (graph-in-range ok) (interval-in-range ok iv) (λ j h. omega (arith, lo-below ok j h, horizon-most ok)) (x .earliest) i l)
     pick (no l) = omega (arith, starts-same (x .pinned) i, x .rest .rest i (omega arith))

@@ -7,17 +7,17 @@ use native.Mathlib.Decide.{decLt}
 use lib.ListN.{length, List·getD-eq-default}
 use lib.IntN.{ℤ}
 use Rattle.sizes.specs.Sizes.{mostOperations}
-use Rattle.laws.specs.Store.{all-zero}
-use Rattle.laws.specs.Entry.{zeros, vec}
+use Rattle.laws.specs.Entry.{vec}
 use Rattle.dependence.specs.Answer.{WalkAnswer, walk-three, walk-four, walk-five, walk-none, StartsAnswer, starts-three, starts-four, starts-five, starts-found, TableAnswer, table-refused, table-bad, table-found, Separations, BoundAnswer, bound-three, bound-eight, bound-found}
 use Rattle.dependence.specs.declared.loops.BadWalk as loops
 use Rattle.dependence.specs.declared.starts.Starts as starts
 use Rattle.dependence.specs.declared.bound.Bound as bounds
 use Rattle.sheet.specs.declared.Sheet.{Sheet}
 use Rattle.sheet.specs.Sheet.{InRange, Interval, graphOf}
-use Rattle.sheet.specs.Facts.{graph-in-range, interval-in-range, cap-in-range}
+use Rattle.sheet.specs.Facts.{graph-in-range, interval-in-range, cap-in-range, horizon-most, lo-below}
 use Rattle.sheet.specs.Questions.{at-no, at-yes, Accepted, goes-on}
 use Rattle.sheet.specs.Loop.{Feasible, loop-made, sheet-exactly}
+use Rattle.timing.specs.Floors.{Floors}
 use Rattle.timing.specs.Answers.{withoutLoop, startsRefused, tableRefused, WalkAt, StartsAt, SeparationsAt, IfSomeFeasible}
 
 module _ (s : Sheet) (L : ℕ) (y : Accepted s L) where
@@ -34,19 +34,19 @@ module _ (s : Sheet) (L : ℕ) (y : Accepted s L) where
       goes-on withoutLoop y (at-no (λ f. f _ (r .first .bad)) (loop-made ok l r (λ k. record { answer = a k; «loop_length» = w .«loop_length»; «loop_edges» = w .«loop_edges» })))
   walk-at w l (walk-none a z e _ _ n) = goes-on withoutLoop y (at-yes n (λ k. record { answer = a k; «loop_length» = z k; «loop_edges» = e k }))
 
-  pub starts-at : (w : starts.Starts) → length (w .starts) ≡ mostOperations → length (w .«loop_edges») ≡ mostOperations
-      → StartsAnswer (graphOf s) L zeros (w .answer) (w .starts) (w .«loop_length») (w .«loop_edges») → StartsAt s L w
-  starts-at w lt le (starts-three _ _ _ _ n) = absurd (n (graph-in-range ok, record { within = λ i h. let e = all-zero mostOperations i in omega arith }))
-  starts-at w lt le (starts-four _ _ _ _ _ _ n) = absurd (n (interval-in-range ok iv))
-  starts-at w lt le (starts-five a t _ _ _ r) =
+  pub starts-at : (w : starts.Starts) (floor : List ℕ) → Floors (s .ops) floor → length (w .starts) ≡ mostOperations → length (w .«loop_edges») ≡ mostOperations
+      → StartsAnswer (graphOf s) L floor (w .answer) (w .starts) (w .«loop_length») (w .«loop_edges») → StartsAt s L w
+  starts-at w floor f lt le (starts-three _ _ _ _ n) = absurd (n (graph-in-range ok, record { within = λ i h. omega (arith, f .each i, lo-below ok i h, horizon-most ok) }))
+  starts-at w floor f lt le (starts-four _ _ _ _ _ _ n) = absurd (n (interval-in-range ok iv))
+  starts-at w floor f lt le (starts-five a t _ _ _ r) =
       goes-on startsRefused y (at-no (λ f. f _ (r .first .bad)) (loop-made ok le r (λ k. record { answer = a k; starts = t k; «loop_length» = w .«loop_length»; «loop_edges» = w .«loop_edges» })))
-  starts-at w lt le (starts-found a z e _ _ _ t rest) =
+  starts-at w floor f lt le (starts-found a z e _ _ _ t rest) =
       goes-on startsRefused y (at-yes (λ p b. sheet-exactly ok iv .no-starts p b _ (t .meets)) (record {
         starts = w .starts;
         earliest = record {
-          above = λ i h. omega arith;
+          above = λ i h. omega (arith, f .each i, t .above i h);
           meets = t .meets;
-          least = λ x h m i l. t .least x (λ j q. let n = all-zero mostOperations j in omega arith) m i l;
+          least = λ x h m i l. t .least x (λ j q. omega (arith, f .each j, h j q)) m i l;
         };
         rest = record { whole = lt; rest = λ i h. past i h (decLt i mostOperations) };
         pinned = λ k. record { answer = a k; starts = w .starts; «loop_length» = z k; «loop_edges» = e k };

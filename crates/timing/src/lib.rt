@@ -2,9 +2,11 @@
 // Each puts its questions in order and asks the dependence part about the sheet's graph.
 ghost use mathlib.Core.Path.{_≡_};
 ghost use Rattle.timing.specs.Answers.{WalkAt, StartsAt, SeparationsAt, RecurrenceAt, withoutLoop, startsRefused};
+ghost use Rattle.timing.specs.Floors.{Floors};
 use dependence::BadWalk;
 use dependence::Bound;
 use dependence::Starts;
+use sheet::Operation;
 use sheet::Sheet;
 use sizes::MOST_OPERATIONS;
 
@@ -41,8 +43,21 @@ pub fn bad_walk(sheet: Sheet, interval: usize) -> BadWalk
     dependence::bad_walk(sheet::graph_of(sheet), interval)
 }
 
-// The least starts, all at least 0, that meet every dependence; they may lie past the horizon, as may their results. Or
-// the sheet's refusal, 4, or 5 with the first bad closed walk.
+// The floor of each start: the first clock of the operation's window.
+fn window_starts(ops: [Operation; MOST_OPERATIONS]) -> [usize; MOST_OPERATIONS]
+    ensures { λ r. ⌜ Floors ops r ⌝ }
+{
+    let mut floor = [0usize; MOST_OPERATIONS];
+    for i in 0..MOST_OPERATIONS {
+        let op = ops[i];
+        floor[i] = op.lo;
+    }
+    floor
+}
+
+// The least starts, each at least the first clock of its window, that meet every dependence; they may lie past the last
+// clock of their windows and past the horizon, as may their results. Or the sheet's refusal, 4, or 5 with the first bad
+// closed walk, in which windows play no part.
 pub fn earliest_starts(sheet: Sheet, interval: usize) -> Starts
     ensures { λ r. ⌜ StartsAt sheet interval r ⌝ }
 {
@@ -50,11 +65,12 @@ pub fn earliest_starts(sheet: Sheet, interval: usize) -> Starts
     if refusal != 0 {
         return starts_refused(refusal);
     }
-    dependence::earliest(sheet::graph_of(sheet), interval, [0; MOST_OPERATIONS])
+    let ops = sheet.ops;
+    dependence::earliest(sheet::graph_of(sheet), interval, window_starts(ops))
 }
 
-// The separation table: each cell the greatest sum over walks of at least one edge, or the mark, whatever the horizon.
-// All 0 where `bad_walk` refuses.
+// The separation table: each cell the greatest sum over walks of at least one edge, or the mark, whatever the horizon and
+// the windows. All 0 where `bad_walk` refuses.
 pub fn separations(sheet: Sheet, interval: usize) -> [[i32; MOST_OPERATIONS]; MOST_OPERATIONS]
     ensures { λ r. ⌜ SeparationsAt sheet interval r ⌝ }
 {
@@ -64,7 +80,8 @@ pub fn separations(sheet: Sheet, interval: usize) -> [[i32; MOST_OPERATIONS]; MO
     dependence::separations(sheet::graph_of(sheet), interval)
 }
 
-// The least interval in 1 to the cap without a bad closed walk, whatever the horizon; or the sheet's refusal, or 8.
+// The least interval in 1 to the cap without a bad closed walk, whatever the horizon and the windows; or the sheet's
+// refusal, or 8.
 pub fn recurrence_bound(sheet: Sheet) -> Bound
     ensures { λ r. ⌜ RecurrenceAt sheet r ⌝ }
 {

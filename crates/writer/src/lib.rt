@@ -2,11 +2,11 @@
 ghost use mathlib.Core.Path.{_≡_};
 ghost use Prim.Native.Nat.{_<_, _≤_};
 ghost use lib.ListN.{length, getD};
-ghost use Rattle.sizes.specs.Sizes.{mostOperations, mostTypes};
+ghost use Rattle.sizes.specs.Sizes.{mostOperations, mostStarts, mostTypes};
 ghost use Rattle.text.specs.Text.{over};
 ghost use Rattle.text.specs.Line.{textOf};
 ghost use Rattle.text.specs.Lines.{lineTextOf, noLine};
-ghost use Rattle.sheet.specs.Sheet.{InRange, TypeInRange, EdgeInRange};
+ghost use Rattle.sheet.specs.Sheet.{InRange, TypeInRange, OpInRange, EdgeInRange};
 ghost use Rattle.sheet.specs.Text.{typeLine, opLine, edgeLine, sheetLines, sheetText};
 ghost use Rattle.writer.specs.Wrote.{Wrote};
 ghost use Rattle.writer.specs.Lines.{headLines, mostLines};
@@ -27,10 +27,10 @@ fn type_line(t: ResourceType) -> Line
 }
 
 fn op_line(o: Operation) -> Line
-    requires { ⌜ o .resource ≤ mostTypes ⌝ }
+    requires { ⌜ OpInRange mostTypes mostStarts o ⌝ }
     ensures { λ r. ⌜ textOf r ≡ lineTextOf (opLine o) ⌝ }
 {
-    text::count_line(text::OP, o.resource)
+    text::line_of(text::OP, 3, o.resource as i32, o.lo as i32, o.hi as i32, 0)
 }
 
 fn edge_line(e: Edge) -> Line

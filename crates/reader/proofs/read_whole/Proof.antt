@@ -26,7 +26,7 @@ types-found : (o : tie.After-read-ops) → let t = o .before .before .before in 
 types-found o = is-found (o .before .before .before .read-types .ensures .0) (o .before .if4 .left)
 
 ops-found : (e : tie.After-read-edges) → let o = e .before .before .before in let t = o .before .before .before in let s = t .before .before .before .before .before .before .before .before .before .before .before .args .bytes .now in
-    sectionFrom opsKind (opKind (t .read-types .result .count)) (drop (t .read-types .result .next) s) ≡ found (take (o .read-ops .result .count) (o .read-ops .result .entries)) (drop (o .read-ops .result .next) s)
+    sectionFrom opsKind (opKind (t .read-types .result .count) (t .before .before .before .before .before .before .before .read-number .result .value)) (drop (t .read-types .result .next) s) ≡ found (take (o .read-ops .result .count) (o .read-ops .result .entries)) (drop (o .read-ops .result .next) s)
 ops-found e = is-found (e .before .before .before .read-ops .ensures .0) (e .before .if5 .left)
 
 refuse-requires : tie.Need-refuse-requires

@@ -12,10 +12,10 @@ use Rattle.sheet.proofs.op_lines.Statement.{statement}
 use Rattle.sheet.proofs.op_lines.Tie as tie
 
 abbrev Inv-loop : tie.InvT-loop
-Inv-loop count types ops k₀ k = (k ≤ count) × (firstOf k (λ x. opAnswer types (getD ops x noOperation)) ≡ 0)
+Inv-loop count types horizon ops k₀ k = (k ≤ count) × (firstOf k (λ x. opAnswer types horizon (getD ops x noOperation)) ≡ 0)
 
 abbrev μ-loop : tie.MeasureT-loop
-μ-loop count types ops k₀ k = count - k
+μ-loop count types horizon ops k₀ k = count - k
 
 loop-holds : tie.Need-loop-holds Inv-loop μ-loop
 loop-holds c = (omega arith, first-none _)

@@ -9,7 +9,7 @@ use Rattle.text.specs.Keys.{opsKey, edgesKey}
 use Rattle.text.specs.Line.{keyOf}
 use Rattle.text.specs.Lines.{lineTextOf}
 use Rattle.text.specs.Joined.{one-number}
-use Rattle.sheet.specs.Facts.{types-most, ops-most, edges-most, resource-below}
+use Rattle.sheet.specs.Facts.{horizon-most, types-most, ops-most, edges-most}
 use Rattle.writer.specs.Lines.{line-count, last-place, type-place, ops-place, op-place, edges-place, edge-place}
 use native.Mathlib.Omega.{arith}
 use borrow.Author.Needs.{needs}
@@ -86,9 +86,9 @@ element-copy-out-op-line c = let m = ops-most (c .before .before .before .before
 op-line-requires : tie.Need-op-line-requires
 op-line-requires c κs =
     let s = c .before .before .before .before .before in
-    let b = resource-below (s .pre .0) (s .args .i - 3 - s .args .t1 .«type_count» - 1) (c .before .if4 .taken) in
-    let m = types-most (s .pre .0) in
-    omega arith
+    let o = s .pre .0 .eachOp (s .args .i - 3 - s .args .t1 .«type_count» - 1) (c .before .if4 .taken) in
+    let h = horizon-most (s .pre .0) in
+    record { resource = lt-of-lt-of-le (o .resource) (types-most (s .pre .0)); lo = lt-of-lt-of-le (o .lo) h; hi = lt-of-lt-of-le (o .hi) h }
 
 returns-4 : tie.Need-returns-4
 returns-4 c =

@@ -18,11 +18,15 @@ use Rattle.reader.proofs.lines.read_op.Tie as tie
 -- the operation as the kind makes it
 made : (c : tie.After-read-line) → not (c .read-line .result .ok) ≡ false
     → _≡_ {A = Operation}
-    (record { resource = natAbs (toZ w32 (ofZ w32 (getD (c .read-line .result .values) 0 (pos 0)))) })
-    ((opKind (c .before .before .before .args .types)) .make (take 1 (c .read-line .result .values)))
+    (record {
+      resource = natAbs (toZ w32 (ofZ w32 (getD (c .read-line .result .values) 0 (pos 0))));
+      lo = natAbs (toZ w32 (ofZ w32 (getD (c .read-line .result .values) 1 (pos 0))));
+      hi = natAbs (toZ w32 (ofZ w32 (getD (c .read-line .result .values) 2 (pos 0))));
+    })
+    ((opKind (c .before .before .before .args .types) (c .before .before .before .args .horizon)) .make (take 3 (c .read-line .result .values)))
 made c t =
-    let at = value-at (opKind (c .before .before .before .args .types)) _ (c .before .before .before .args .at) _ (c .read-line .ensures .0) (c .read-line .ensures .1) t in
-    λ j. record { resource = natAbs (at 0 (omega arith) j) }
+    let at = value-at (opKind (c .before .before .before .args .types) (c .before .before .before .args .horizon)) _ (c .before .before .before .args .at) _ (c .read-line .ensures .0) (c .read-line .ensures .1) t in
+    λ j. record { resource = natAbs (at 0 (omega arith) j); lo = natAbs (at 1 (omega arith) j); hi = natAbs (at 2 (omega arith) j) }
 
 slice-aggregate-read-line : tie.Need-slice-aggregate-read-line
 slice-aggregate-read-line c = search needs
@@ -33,30 +37,46 @@ read-line-requires c κs = search needs
 returns : tie.Need-returns
 returns c =
     let r = c .before .before in
-    malformed (opKind (r .before .before .before .args .types)) _ (r .before .before .before .args .at) _ (r .read-line .ensures .0) (r .read-line .ensures .1) (r .before .before .before .pre) noOperation (c .if1 .taken)
+    malformed (opKind (r .before .before .before .args .types) (r .before .before .before .args .horizon)) _ (r .before .before .before .args .at) _ (r .read-line .ensures .0) (r .read-line .ensures .1) (r .before .before .before .pre) noOperation (c .if1 .taken)
 
-array-copy-out-t15 : tie.Need-array-copy-out-t15
-array-copy-out-t15 c = search needs
+array-copy-out-t16 : tie.Need-array-copy-out-t16
+array-copy-out-t16 c = search needs
 
-cast-t16 : tie.Need-cast-t16
-cast-t16 c =
+cast-t17 : tie.Need-cast-t17
+cast-t17 c =
     let r = c .before .before .before .before in
-    cast-at (opKind (r .before .before .before .args .types)) _ (r .before .before .before .args .at) _ (r .read-line .ensures .0) (r .read-line .ensures .1) (c .before .before .if1 .left) 0 (omega arith) (λ z. absurd (omega arith))
+    cast-at (opKind (r .before .before .before .args .types) (r .before .before .before .args .horizon)) _ (r .before .before .before .args .at) _ (r .read-line .ensures .0) (r .read-line .ensures .1) (c .before .before .if1 .left) 0 (omega arith) (λ z. absurd (omega arith))
+
+array-copy-out-t20 : tie.Need-array-copy-out-t20
+array-copy-out-t20 c = search needs
+
+cast-t21 : tie.Need-cast-t21
+cast-t21 c =
+    let r = c .before .before .before .before .before in
+    cast-at (opKind (r .before .before .before .args .types) (r .before .before .before .args .horizon)) _ (r .before .before .before .args .at) _ (r .read-line .ensures .0) (r .read-line .ensures .1) (c .before .before .before .if1 .left) 1 (omega arith) (λ z. absurd (omega arith))
+
+array-copy-out-t24 : tie.Need-array-copy-out-t24
+array-copy-out-t24 c = search needs
+
+cast-t25 : tie.Need-cast-t25
+cast-t25 c =
+    let r = c .before .before .before .before .before .before in
+    cast-at (opKind (r .before .before .before .args .types) (r .before .before .before .args .horizon)) _ (r .before .before .before .args .at) _ (r .read-line .ensures .0) (r .read-line .ensures .1) (c .before .before .before .before .if1 .left) 2 (omega arith) (λ z. absurd (omega arith))
 
 op-answer-requires : tie.Need-op-answer-requires
 op-answer-requires c κs = search needs
 
 returns-2 : tie.Need-returns-2
 returns-2 c =
-    let r = c .before .before .before .before .before .before in
-    let t = c .before .before .before .before .if1 .left in
-    refuses (opKind (r .before .before .before .args .types)) _ (r .before .before .before .args .at) _ (r .read-line .ensures .0) (r .read-line .ensures .1) t _ (made r t) (r .before .before .before .pre) noOperation (c .before .op-answer .ensures) (c .if2 .taken)
+    let r = c .before .before .before .before .before .before .before .before in
+    let t = c .before .before .before .before .before .before .if1 .left in
+    refuses (opKind (r .before .before .before .args .types) (r .before .before .before .args .horizon)) _ (r .before .before .before .args .at) _ (r .read-line .ensures .0) (r .read-line .ensures .1) t _ (made r t) (r .before .before .before .pre) noOperation (c .before .op-answer .ensures) (c .if2 .taken)
 
 returns-3 : tie.Need-returns-3
 returns-3 c =
-    let r = c .before .before .before .before .before .before in
-    let t = c .before .before .before .before .if1 .left in
-    entry (opKind (r .before .before .before .args .types)) _ (r .before .before .before .args .at) _ (r .read-line .ensures .0) (r .read-line .ensures .1) t _ (made r t) (c .before .op-answer .ensures) (c .if2 .left)
+    let r = c .before .before .before .before .before .before .before .before in
+    let t = c .before .before .before .before .before .before .if1 .left in
+    entry (opKind (r .before .before .before .args .types) (r .before .before .before .args .horizon)) _ (r .before .before .before .args .at) _ (r .read-line .ensures .0) (r .read-line .ensures .1) t _ (made r t) (c .before .op-answer .ensures) (c .if2 .left)
 
 pub read-op-spec : {M : Type 1} → statement M
 read-op-spec =
@@ -65,8 +85,12 @@ read-op-spec =
     slice-aggregate-read-line
     read-line-requires
     returns
-    array-copy-out-t15
-    cast-t16
+    array-copy-out-t16
+    cast-t17
+    array-copy-out-t20
+    cast-t21
+    array-copy-out-t24
+    cast-t25
     op-answer-requires
     returns-2
     returns-3)

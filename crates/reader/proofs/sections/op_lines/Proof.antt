@@ -10,10 +10,10 @@ use Rattle.reader.proofs.sections.op_lines.Statement.{statement}
 use Rattle.reader.proofs.sections.op_lines.Tie as tie
 
 abbrev Inv-loop : tie.InvT-loop
-Inv-loop s at count types entries₀ p₀ i₀ entries p i = Turn (opKind types) mostOperations noOperation s at count entries p i
+Inv-loop s at count types horizon entries₀ p₀ i₀ entries p i = Turn (opKind types horizon) mostOperations noOperation s at count entries p i
 
 abbrev μ-loop : tie.MeasureT-loop
-μ-loop s at count types entries₀ p₀ i₀ entries p i = count - i
+μ-loop s at count types horizon entries₀ p₀ i₀ entries p i = count - i
 
 loop-holds : tie.Need-loop-holds Inv-loop μ-loop
 loop-holds c = start _ mostOperations noOperation _ _ _ (c .before .pre .0)

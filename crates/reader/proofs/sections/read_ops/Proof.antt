@@ -20,13 +20,13 @@ no-ops-requires : tie.Need-no-ops-requires
 no-ops-requires c κs = search needs
 
 returns : tie.Need-returns
-returns c = count-refused opsKind (opKind (c .before .before .before .before .before .before .args .types)) _ (c .before .before .before .read-number .ensures) (c .before .if1 .taken) (c .no-ops .ensures)
+returns c = count-refused opsKind (opKind (c .before .before .before .before .before .before .args .types) (c .before .before .before .before .before .before .args .horizon)) _ (c .before .before .before .read-number .ensures) (c .before .if1 .taken) (c .no-ops .ensures)
 
 op-lines-requires : tie.Need-op-lines-requires
 op-lines-requires c κs = (c .before .before .read-number .ensures .within, most (count-inside key.opsKey range.operations _ (c .before .before .read-number .ensures) (c .if1 .left)))
 
 returns-2 : tie.Need-returns-2
-returns-2 c = section-read opsKind (opKind (c .before .before .before .before .before .before .args .types)) _ (c .before .before .before .read-number .ensures) (c .before .if1 .left) (c .op-lines .ensures)
+returns-2 c = section-read opsKind (opKind (c .before .before .before .before .before .before .args .types) (c .before .before .before .before .before .before .args .horizon)) _ (c .before .before .before .read-number .ensures) (c .before .if1 .left) (c .op-lines .ensures)
 
 pub read-ops-spec : {M : Type 1} → statement M
 read-ops-spec =
