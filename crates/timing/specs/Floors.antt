@@ -15,9 +15,9 @@ use Rattle.sheet.specs.Sheet.{noOperation, opAt, graphOf}
 pub record Floors (ops : List Operation) (floor : List ℕ) : Type 0 where
   pub each : (i : ℕ) → vec floor i ≡ getD ops i noOperation .lo
 
-pub earliest-from-0 : {s : Sheet} {L : ℕ} {t : ℕ → ℕ} → ((i : ℕ) → i < s .«op_count» → opAt s i .lo ≡ 0)
+pub earliest-from-0 : (s : Sheet) {L : ℕ} {t : ℕ → ℕ} → ((i : ℕ) → i < s .«op_count» → opAt s i .lo ≡ 0)
     → Earliest (graphOf s) L (λ i. opAt s i .lo) t → Earliest (graphOf s) L (λ i. 0) t
-earliest-from-0 z e = record {
+earliest-from-0 s z e = record {
   above = λ i h. omega arith;
   meets = e .meets;
   least = λ r o m i h. e .least r (λ j k. omega (arith, z j k)) m i h;

@@ -1,7 +1,8 @@
--- `rules::allowed_starts` meets its contract: each start passed has its flag, by the latency of the operation's type.
+-- `rules::allowed_starts` meets its contract: each start passed has its flag, by the latency of the operation's type and
+-- the operation's window.
 -- Assumes nothing.
-use mathlib.Core.Path.{_≡_, ap}
-use mathlib.Core.Bool.{false}
+use mathlib.Core.Path.{_≡_, sym, ap, subst}
+use mathlib.Core.Bool.{Bool, false}
 use Prim.Native.Nat.{ℕ, _≤_, _<_, _-_}
 use native.Mathlib.Omega.{arith}
 use lib.ListN.{length, getD, length-set}
@@ -9,16 +10,25 @@ use borrow.Author.Needs.{needs}
 use Rattle.sizes.specs.Sizes.{mostStarts}
 use Rattle.laws.specs.Store.{store-more}
 use Rattle.laws.specs.Says.{Says}
+use Rattle.laws.specs.Tests.{last}
+use Rattle.sheet.specs.declared.Operation.{Operation}
 use Rattle.sheet.specs.declared.ResourceType.{ResourceType}
-use Rattle.plan.specs.Rules.{InHorizon}
+use Rattle.plan.specs.Rules.{InHorizon, InWindow}
 use Rattle.rules.proofs.starts.allowed_starts.Statement.{statement}
 use Rattle.rules.proofs.starts.allowed_starts.Tie as tie
 
+-- what is tested of each start
+abbrev Tested : ℕ → ℕ → Operation → ℕ → Bool → Type 0
+Tested horizon latency o k z = Says (InHorizon horizon latency k × InWindow (o .lo) (o .hi) k) z
+
 abbrev Inv-loop : tie.InvT-loop
-Inv-loop interval op horizon latency row₀ t₀ row t = (t ≤ mostStarts) × (length row ≡ mostStarts) × ((k : ℕ) → k < t → Says (InHorizon horizon latency k) (getD row k false))
+Inv-loop interval op horizon operation latency row₀ t₀ row t = (t ≤ mostStarts) × (length row ≡ mostStarts) × ((k : ℕ) → k < t → Tested horizon latency operation k (getD row k false))
 
 abbrev μ-loop : tie.MeasureT-loop
-μ-loop interval op horizon latency row₀ t₀ row t = mostStarts - t
+μ-loop interval op horizon operation latency row₀ t₀ row t = mostStarts - t
+
+operation-of-requires : tie.Need-operation-of-requires Inv-loop μ-loop
+operation-of-requires c κs = search needs
 
 type-of-requires : tie.Need-type-of-requires Inv-loop μ-loop
 type-of-requires c κs = search needs
@@ -26,8 +36,8 @@ type-of-requires c κs = search needs
 loop-holds : tie.Need-loop-holds Inv-loop μ-loop
 loop-holds c = (omega arith, search needs, λ k l. absurd (omega arith))
 
-in-horizon-requires : tie.Need-in-horizon-requires Inv-loop μ-loop
-in-horizon-requires c κs = search needs
+may-start-requires : tie.Need-may-start-requires Inv-loop μ-loop
+may-start-requires c κs = search needs
 
 array-write-row : tie.Need-array-write-row Inv-loop μ-loop
 array-write-row c = search needs
@@ -39,19 +49,27 @@ loop-less : tie.Need-loop-less Inv-loop μ-loop
 loop-less c = search needs
 
 loop-again : tie.Need-loop-again Inv-loop μ-loop
-loop-again c = let l = c .before .before .loop in
-    (omega arith, simp length-set (l .inv .1), store-more (λ k z. Says (InHorizon (c .before .before .before .before .args .sheet .horizon) (c .before .before .before .type-of .result .latency) k) z) (l .row) (l .t) _ false (omega (arith, l .inv .1)) (c .in-horizon .ensures) (l .inv .2))
+loop-again c =
+    let l = c .before .before .loop in
+    let f = c .before .before .before in
+    let o = f .before in
+    (omega arith, simp length-set (l .inv .1), store-more (Tested (o .before .args .sheet .horizon) (f .type-of .result .latency) (o .operation-of .result)) (l .row) (l .t) _ false (omega (arith, l .inv .1)) (c .may-start .ensures) (l .inv .2))
 
 returns : tie.Need-returns Inv-loop μ-loop
 returns c =
     let l = c .before .loop in
-    let d = ap (λ (t : ResourceType). t .latency) (c .before .before .type-of .ensures) in
+    let f = c .before .before in
+    let H = f .before .before .args .sheet .horizon in
+    let o = f .before .operation-of .ensures in
+    let d = ap (λ (t : ResourceType). t .latency) (f .type-of .ensures) in
     record {
-      start = λ k h. let q = l .inv .2 k (omega arith) in
-          record {
-            yes = λ e. record { inHorizon = record { starts = q .yes e .starts; finishes = omega (arith, d, q .yes e .finishes) }; holds = tt };
-            no = λ e p. q .no e (record { starts = p .inHorizon .starts; finishes = omega (arith, d, p .inHorizon .finishes) });
-          };
+      start = λ k h. last (l .inv .2 k (omega arith))
+          (λ p. record {
+            inHorizon = subst (λ (n : ℕ). InHorizon H n k) d (p .0);
+            inWindow = subst (λ (x : Operation). InWindow (x .lo) (x .hi) k) o (p .1);
+            holds = tt;
+          })
+          (λ a. (subst (λ (n : ℕ). InHorizon H n k) (sym d) (a .inHorizon), subst (λ (x : Operation). InWindow (x .lo) (x .hi) k) (sym o) (a .inWindow)));
     }
 
 pub allowed-starts-spec : {M : Type 1} → statement M
@@ -60,9 +78,10 @@ allowed-starts-spec =
     (tie.spec
     Inv-loop
     μ-loop
+    operation-of-requires
     type-of-requires
     loop-holds
-    in-horizon-requires
+    may-start-requires
     array-write-row
     add-t
     loop-less

@@ -7,15 +7,15 @@ use Rattle.rules.proofs.starts.in_window.Tie as tie
 
 returns : tie.Need-returns
 returns c =
-    let a = c .before .args in
+    let a = c .before .before .before .args in
     record {
-      yes = λ e. record { from = c .if1 .taken; to = leb-true (a .t) (a .operation .hi) e };
+      yes = λ e. record { from = c .before .if1 .taken; to = leb-true (a .t) (a .operation .hi) e };
       no = λ e p. omega (arith, leb-false (a .t) (a .operation .hi) e, p .to);
     }
 
 returns-2 : tie.Need-returns-2
 returns-2 c =
-    let a = c .before .args in
+    let a = c .before .before .args in
     record {
       yes = λ e. absurd (omega (arith, c .if1 .left, leb-true (a .operation .lo) (a .t) e));
       no = λ e p. omega (arith, c .if1 .left, p .from);
