@@ -114,11 +114,10 @@ pub fn read_op(s: &[u8], at: usize, types: usize, horizon: usize) -> OpRead
         };
     }
     let values = line.values;
-    let entry = Operation {
-        resource: values[0] as usize,
-        lo: values[1] as usize,
-        hi: values[2] as usize,
-    };
+    let resource = values[0] as usize;
+    let lo = values[1] as usize;
+    let hi = values[2] as usize;
+    let entry = Operation { resource, lo, hi };
     let answer = sheet::op_answer(types, horizon, entry);
     if answer != 0 {
         return OpRead {

@@ -39,27 +39,27 @@ returns c =
     let r = c .before .before in
     malformed (opKind (r .before .before .before .args .types) (r .before .before .before .args .horizon)) _ (r .before .before .before .args .at) _ (r .read-line .ensures .0) (r .read-line .ensures .1) (r .before .before .before .pre) noOperation (c .if1 .taken)
 
-array-copy-out-t16 : tie.Need-array-copy-out-t16
-array-copy-out-t16 c = search needs
+array-copy-out-resource : tie.Need-array-copy-out-resource
+array-copy-out-resource c = search needs
 
-cast-t17 : tie.Need-cast-t17
-cast-t17 c =
+cast-resource : tie.Need-cast-resource
+cast-resource c =
     let r = c .before .before .before .before in
     cast-at (opKind (r .before .before .before .args .types) (r .before .before .before .args .horizon)) _ (r .before .before .before .args .at) _ (r .read-line .ensures .0) (r .read-line .ensures .1) (c .before .before .if1 .left) 0 (omega arith) (λ z. absurd (omega arith))
 
-array-copy-out-t20 : tie.Need-array-copy-out-t20
-array-copy-out-t20 c = search needs
+array-copy-out-lo : tie.Need-array-copy-out-lo
+array-copy-out-lo c = search needs
 
-cast-t21 : tie.Need-cast-t21
-cast-t21 c =
+cast-lo : tie.Need-cast-lo
+cast-lo c =
     let r = c .before .before .before .before .before in
     cast-at (opKind (r .before .before .before .args .types) (r .before .before .before .args .horizon)) _ (r .before .before .before .args .at) _ (r .read-line .ensures .0) (r .read-line .ensures .1) (c .before .before .before .if1 .left) 1 (omega arith) (λ z. absurd (omega arith))
 
-array-copy-out-t24 : tie.Need-array-copy-out-t24
-array-copy-out-t24 c = search needs
+array-copy-out-hi : tie.Need-array-copy-out-hi
+array-copy-out-hi c = search needs
 
-cast-t25 : tie.Need-cast-t25
-cast-t25 c =
+cast-hi : tie.Need-cast-hi
+cast-hi c =
     let r = c .before .before .before .before .before .before in
     cast-at (opKind (r .before .before .before .args .types) (r .before .before .before .args .horizon)) _ (r .before .before .before .args .at) _ (r .read-line .ensures .0) (r .read-line .ensures .1) (c .before .before .before .before .if1 .left) 2 (omega arith) (λ z. absurd (omega arith))
 
@@ -85,12 +85,12 @@ read-op-spec =
     slice-aggregate-read-line
     read-line-requires
     returns
-    array-copy-out-t16
-    cast-t17
-    array-copy-out-t20
-    cast-t21
-    array-copy-out-t24
-    cast-t25
+    array-copy-out-resource
+    cast-resource
+    array-copy-out-lo
+    cast-lo
+    array-copy-out-hi
+    cast-hi
     op-answer-requires
     returns-2
     returns-3)

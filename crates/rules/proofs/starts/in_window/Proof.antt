@@ -9,7 +9,7 @@ returns : tie.Need-returns
 returns c =
     let a = c .before .before .before .args in
     record {
-      yes = λ e. record { from = c .before .if1 .taken; to = leb-true (a .t) (a .operation .hi) e };
+      yes = λ e. record { from = omega (arith, c .before .if1 .taken); to = leb-true (a .t) (a .operation .hi) e };
       no = λ e p. omega (arith, leb-false (a .t) (a .operation .hi) e, p .to);
     }
 
