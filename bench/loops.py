@@ -9,9 +9,10 @@ motor        transforms, controllers and filters of motor control, with integrat
 deadlines    loops whose operations must follow others within a time, by edges with a negative delay
 packing      as many operations of each type as its instances hold at the wanted interval, starts confined
 recurrences  many backedges of distance 1 to 3
-windows      motor loops whose ports settle late and whose outputs have a last clock
+windows      the loops of motor without the edges by which outputs are due; instead ports settle late and outputs have
+             a last clock
 
-An operation may start in the whole horizon, but for those of windows.
+In every family but windows an operation may start in the whole horizon.
 
 As a program:  loops.py FAMILY SEED   prints one sheet.
 """

@@ -1,5 +1,5 @@
 #!/usr/bin/env python3
-"""Loop sheets and interval plans as document 01 words them, by plain enumeration.
+"""Loop sheets and interval plans as document 01 and slips 1 and 2 of 02 word them, by plain enumeration.
 
 Independent of the Rattle crates: nothing here is taken from their code, their algorithms or their
 outputs. Sheets are read with a regular expression for each kind of line; plans, instances and closed
