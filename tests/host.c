@@ -48,12 +48,18 @@ static char DUE[TEXT], SETTLED[TEXT], NEVER[TEXT];
    operation; and before an edge out of range. */
 static char UPSIDE_DOWN[TEXT], PAST_TOO[TEXT], AFTER_PAST[TEXT], BEFORE_PAST[TEXT];
 
+static const loop CASE_A = {3, 4, 2, {{1, 1}, {0, 1}}, 3, {0, 1, 0}, 3, {{0, 1, 0, 0}, {1, 2, 0, 0}, {2, 0, 0, 2}}};
+
+static loop with_horizon(loop s, int horizon)
+{
+    s.horizon = horizon;
+    return s;
+}
+
 static void plain_sheets(void)
 {
-    loop a = {3, 4, 2, {{1, 1}, {0, 1}}, 3, {0, 1, 0}, 3, {{0, 1, 0, 0}, {1, 2, 0, 0}, {2, 0, 0, 2}}};
-    put_sheet(A, a, NULL);
-    a.horizon = 4;
-    put_sheet(B, a, NULL);
+    put_sheet(A, CASE_A, NULL);
+    put_sheet(B, with_horizon(CASE_A, 4), NULL);
     put_sheet(NOT_MONOTONE, (loop){5, 5, 1, {{1, 1}}, 2, {0, 0}, 2, {{0, 1, 3, 0}, {1, 0, -5, 0}}}, NULL);
     put_sheet(SELF, (loop){1, 3, 1, {{0, 1}}, 1, {0}, 1, {{0, 0, 0, 0}}}, NULL);
     put_sheet(THREE, (loop){2, 2, 1, {{2, 1}}, 3, {0, 0, 0}, 0, {{0}}}, NULL);
@@ -63,7 +69,7 @@ static void plain_sheets(void)
 
 static void windowed_sheets(void)
 {
-    loop b = {4, 4, 2, {{1, 1}, {0, 1}}, 3, {0, 1, 0}, 3, {{0, 1, 0, 0}, {1, 2, 0, 0}, {2, 0, 0, 2}}};
+    loop b = with_horizon(CASE_A, 4);
     put_sheet(DUE, b, (windows){{0, 3}, {0, 3}, {0, 2}});
     put_sheet(SETTLED, b, (windows){{1, 3}, {0, 3}, {3, 3}});
     put_sheet(NEVER, b, (windows){{1, 3}, {0, 3}, {0, 2}});
