@@ -8,35 +8,36 @@
 #include "leastplan_placing.h"
 #include "expect.h"
 
+enum { MOST = 4 };
+
+/* A loop: its types (instances, latency), the type of each operation, its edges. */
+typedef struct {
+    size_t horizon, cap;
+    size_t type_count, types[MOST][2];
+    size_t op_count, kinds[MOST];
+    size_t edge_count;
+    leastplan_edge edges[MOST];
+} loop;
+
+/* The sheet of a loop, with the window of the whole horizon for each operation. */
+static leastplan_sheet plain_sheet(loop s)
+{
+    leastplan_sheet sheet = {.horizon = s.horizon, .cap = s.cap};
+    sheet.type_count = s.type_count;
+    for (size_t k = 0; k < s.type_count; k++)
+        sheet.types[k] = (leastplan_type){.instances = s.types[k][0], .latency = s.types[k][1]};
+    sheet.op_count = s.op_count;
+    for (size_t i = 0; i < s.op_count; i++)
+        sheet.ops[i] = (leastplan_operation){.resource = s.kinds[i], .lo = 0, .hi = s.horizon - 1};
+    sheet.edge_count = s.edge_count;
+    for (size_t k = 0; k < s.edge_count; k++) sheet.edges[k] = s.edges[k];
+    return sheet;
+}
+
 /* Operations 0, 1 and 3 are rivals with two instances, 2 is of an unlimited type; starts 0 to 3, intervals 1 to 3. The
    result of 2 comes after the horizon at any start: so the sheet has no plan, but a table may hold the operation. */
+static const loop RIVALS = {4, 3, 2, {{2, 1}, {0, 9}}, 4, {0, 0, 1, 0}, 1, {{0, 1, 1, 0}}};
 static leastplan_sheet FOUR;
-
-/* Operations of these types, each with the window of the whole horizon. */
-static void set_operations(leastplan_sheet *sheet, size_t count, const size_t *kinds)
-{
-    sheet->op_count = count;
-    for (size_t i = 0; i < count; i++)
-        sheet->ops[i] = (leastplan_operation){.resource = kinds[i], .lo = 0, .hi = sheet->horizon - 1};
-}
-
-static void set_types(leastplan_sheet *sheet, size_t count, const size_t (*types)[2])
-{
-    sheet->type_count = count;
-    for (size_t k = 0; k < count; k++)
-        sheet->types[k] = (leastplan_type){.instances = types[k][0], .latency = types[k][1]};
-}
-
-static void make_four(void)
-{
-    const size_t types[2][2] = {{2, 1}, {0, 9}}, kinds[4] = {0, 0, 1, 0};
-    FOUR.horizon = 4;
-    FOUR.cap = 3;
-    set_types(&FOUR, 2, types);
-    set_operations(&FOUR, 4, kinds);
-    FOUR.edge_count = 1;
-    FOUR.edges[0] = (leastplan_edge){.from = 0, .to = 1, .delay = 1, .distance = 0};
-}
 
 /* The table that is kept, and what it is to hold. */
 static leastplan_table *kept, due;
@@ -173,7 +174,7 @@ static void outside_windows(void)
 
 int main(void)
 {
-    make_four();
+    FOUR = plain_sheet(RIVALS);
     kept = malloc(sizeof *kept);
     memset(kept, 0, sizeof *kept);
     placements();
