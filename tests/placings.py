@@ -142,9 +142,10 @@ def random_tables(rng, sheet, rounds):
         yield from handed_in(entries + [changed], [interval, interval + 1], *target)
 
 
-def random_scripts():
-    rng = sheets.seeded(5)
-    made = [sheets.small_sheet(rng) for _ in range(600)]
+def random_scripts(seed, *makers):
+    """On sheets that the makers draw by turns: the first few, and the first that have some room."""
+    rng = sheets.seeded(seed)
+    made = [makers[k % len(makers)](rng) for k in range(600)]
     roomy = [s for s in made if len(s.ops) > 3 and s.horizon > 4 and s.cap > 3]
     for sheet in made[:6] + roomy[:24]:
         yield sheet, [line for interval in range(4) for line in steps(interval)]
@@ -180,10 +181,13 @@ def upside_down():
 def scripts():
     """(sheet, script) of each pair of pieces."""
     yield None, steps(1)
-    for part in (single_entries(), entry_pairs(), first_question(), whole_tables(), random_scripts(), late_results()):
+    for part in (single_entries(), entry_pairs(), first_question(), whole_tables()):
         yield from part
+    yield from random_scripts(5, sheets.small_sheet)
+    yield from late_results()
     yield from outside_windows()
     yield from upside_down()
+    yield from random_scripts(12, sheets.narrow_sheet, sheets.windowed_sheet)
 
 
 def as_read(sheet):
