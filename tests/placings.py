@@ -8,8 +8,7 @@ import itertools
 import reference as ref
 import sheets
 from reference import plain_sheet, with_windows
-
-HUGE = 9999  # the greatest number that a line can have
+from sheets import HUGE
 
 
 # ---- what a script prints
@@ -202,7 +201,7 @@ def stored():
     return pieces, [b"".join(answers_of(as_read(sheet), script)) for sheet, script in pairs]
 
 
-# ---- sheets that only numbers can hand in
+# ---- sheets handed in as numbers
 
 MOST = 2**64 - 1
 
@@ -215,7 +214,7 @@ def with_operations(changes):
     return sheet
 
 
-def bad_numbers():
+def windows_in_numbers():
     """(name, answer, sheet): the first line at fault decides, and 3 within a line goes before 16. The answers are
     worked by hand; the horizon is 4 and there are 3 types."""
     yield "lo past hi", 16, with_operations({0: (0, 1, 0)})
@@ -243,8 +242,17 @@ def bad_numbers():
     yield "a single clock", 0, with_operations({0: (0, 3, 3)})
 
 
-def bad_scripts():
-    """(sheet, script) of sheets that are handed in as numbers alone."""
-    for _, _, sheet in bad_numbers():
+def window_scripts():
+    """(sheet, script) of each of those sheets, with an entry past its operations and without."""
+    for _, _, sheet in windows_in_numbers():
         yield sheet, [(b"entry", 6, 1, 0, 0)] + steps(2)
         yield sheet, steps(2)
+
+
+def any_scripts(rng, count):
+    """Placements at one interval on sheets of any numbers, most of them refused."""
+    for _ in range(count):
+        sheet = sheets.any_numbers(rng)
+        interval = rng.choice([1, 2, 3, 5, sheet.cap, sheet.cap + 1])
+        targets = [(rng.randint(0, len(sheet.ops)), rng.randint(0, sheet.horizon)) for _ in range(24)]
+        yield sheet, [(b"place", interval, op, start) for op, start in targets]

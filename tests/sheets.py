@@ -1,9 +1,11 @@
-"""Random loop sheets and damaged sheets for the tests, from a seed."""
+"""Random loop sheets, sheets of any numbers and damaged sheets for the tests, from a seed."""
 
 import random
 import re
 
-from reference import earliest_starts, latency, plain_sheet, sheet_text, with_horizon, with_windows
+from reference import RANGES, earliest_starts, kind, latency, plain_sheet, sheet_text, with_horizon, with_windows
+
+HUGE = 9999  # the greatest number that a line can have
 
 # Bytes that a damaged sheet may get: every class of the format, and others.
 ODD_BYTES = b"0123456789-,=\n\r +.\x00\x7f\x80\xff" + b"horizncaptyesdg"
@@ -92,6 +94,49 @@ def spread(rng, low, high):
     return rng.choice([low, high, rng.randint(low, high), rng.randint(low, min(high, low + 9))])
 
 
+def any_numbers(rng):
+    """A sheet as numbers, all of which a text can have too: in range, or with one fault or more, most often in a
+    window."""
+    sheet = wide_sheet(rng)
+    for _ in range(rng.choice([0, 0, 1, 1, 2, 3])):
+        rng.choice([wrong_window, wrong_window, wrong_field])(rng, sheet)
+    if rng.random() < 0.2:
+        sheet.horizon = rng.choice([0, 129, HUGE, spread(rng, *RANGES["H"])])
+        sheet.cap = rng.choice([0, 65, HUGE, spread(rng, *RANGES["M"])])
+    if rng.random() < 0.1:
+        wrong_count(rng, sheet)
+    return sheet
+
+
+def wrong_window(rng, sheet):
+    i = rng.randrange(len(sheet.ops))
+    sheet.ops[i] = (kind(sheet, i), *rng.choice(wrong_windows(rng, sheet.horizon)))
+
+
+def wrong_windows(rng, horizon):
+    """Upside down (of one clock where the two are equal), at the horizon or past it, or more than one of these."""
+    first, last = sorted(rng.randrange(horizon) for _ in range(2))
+    inside = [(last, first), (last, first), (horizon - 1, 0)]
+    return inside + [(horizon, first), (first, horizon), (horizon, horizon), (horizon + 1, horizon)]
+
+
+def wrong_field(rng, sheet):
+    """One number of a type, an operation or an edge is at either side of the end of some range."""
+    rows = rng.choice([rows for rows in (sheet.types, sheet.ops, sheet.edges) if rows])
+    k = rng.randrange(len(rows))
+    field = rng.randrange(len(rows[k]))
+    delay = rows is sheet.edges and field == 2
+    value = rng.choice([0, 1, 8, 9, 32, 33, 64, 65, 128, HUGE]) * (rng.choice([1, -1]) if delay else 1)
+    rows[k] = (*rows[k][:field], value, *rows[k][field + 1 :])
+
+
+def wrong_count(rng, sheet):
+    """No types, operations or edges, as many as there may be, or one more."""
+    rows, count = rng.choice([(sheet.types, "R"), (sheet.ops, "N"), (sheet.edges, "E")])
+    wanted = rng.choice([0, RANGES[count][1], RANGES[count][1] + 1])
+    rows[:] = ((rows or [(0, 0, 0, 0)]) * wanted)[:wanted]
+
+
 def damaged(rng, text):
     """The text with one to three edits: a byte changed, put in or taken out, a line moved, numbers replaced."""
     edits = [changed_byte, added_byte, lost_byte, moved_line, other_number, other_window, other_window, cut_short]
@@ -140,17 +185,15 @@ def other_number(rng, data):
 
 
 def other_window(rng, data):
-    """One operation gets another window: upside down, at the horizon or past it, or more than one of these; sometimes
-    the number of its type is out of range or malformed besides."""
+    """One operation gets a wrong window; sometimes the number of its type is out of range or malformed besides."""
     horizon = re.search(rb"horizon=([1-9][0-9]{0,3})\n", data)
     lines = list(re.finditer(rb"^op=([^,\n]*)[^\n]*", data, re.MULTILINE))
     if not horizon or not lines:
         return data
-    line, past = rng.choice(lines), int(horizon[1])
-    first, last = sorted(rng.randrange(past) for _ in range(2))
-    ends = [(last, first), (last, first), (past - 1, 0), (past, first), (first, past), (past, past), (past + 1, past)]
-    kind = rng.choice([line[1], line[1], line[1], b"8", b"00"])
-    return data[: line.start()] + b"op=%s,%d,%d" % (kind, *rng.choice(ends)) + data[line.end() :]
+    line = rng.choice(lines)
+    ends = wrong_windows(rng, int(horizon[1]))
+    number = rng.choice([line[1], line[1], line[1], b"8", b"00"])
+    return data[: line.start()] + b"op=%s,%d,%d" % (number, *rng.choice(ends)) + data[line.end() :]
 
 
 def cut_short(rng, data):
