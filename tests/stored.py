@@ -17,7 +17,7 @@ from reference import plain_sheet, with_horizon, with_windows
 
 ROOT = os.path.join(os.path.dirname(os.path.abspath(__file__)), "..")
 LONGEST = ref.SHEET_BYTES + 1  # what leastplan reads at most
-INPUT = 262144  # what the programs over many pieces read at most
+INPUT = 524288  # what the programs over many pieces read at most
 
 BASE = plain_sheet(
     20,
@@ -258,7 +258,7 @@ def random_reads(rng, rounds):
 def reader_pieces():
     parts = [boundaries(), frames(), counts(), malformations(), several_faults(), windows(), sizes()]
     pieces = [BASE_TEXT]
-    for part in parts + [random_reads(sheets.seeded(3), 60)]:
+    for part in parts + [random_reads(sheets.seeded(3), 120)]:
         pieces += part
     return list(dict.fromkeys(pieces))
 
