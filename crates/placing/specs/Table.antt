@@ -28,8 +28,8 @@ Placed table i = placementAt table i .placed ≡ true
 
 -- ---- a consistent table
 
--- starts from 0 to H − 1 whatever the latency, instances as in the rules of a plan, both 0 where nothing is placed,
--- nothing placed past the sheet's operations; `holds` is what the rules of a plan ask of a start for holding an
+-- starts from 0 to H − 1 whatever latency and window, instances as in the rules of a plan, both 0 where nothing is
+-- placed, nothing placed past the sheet's operations; `holds` is what the rules of a plan ask of a start for holding an
 -- instance
 pub record EntryAllowed (s : Sheet) (L i : ℕ) (p : Placement) : Type 0 where
   pub within : p .placed ≡ true → i < s .«op_count»
@@ -61,7 +61,7 @@ pub record Consistent (s : Sheet) (L : ℕ) (table : Table) : Type 0 where
 
 -- ---- placing
 
--- question 11: the operation number and the start are in range, whatever the latency
+-- question 11: the operation number and the start are in range, whatever latency and window
 pub record Target (s : Sheet) (op start : ℕ) : Type 0 where
   pub operation : op < s .«op_count»
   pub inHorizon : start < s .horizon

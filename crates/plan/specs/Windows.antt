@@ -1,5 +1,5 @@
--- A window of the whole horizon, lo 0 and hi H − 1, asks nothing: of an operation that has it a start is allowed wherever
--- 01 allows it. Assumes nothing.
+-- A window of the whole horizon, lo 0 and hi H − 1, asks nothing: an operation that has it may start wherever the
+-- horizon allows it. Assumes nothing.
 use mathlib.Core.Path.{_≡_}
 use Prim.Native.Nat.{ℕ, _+_}
 use native.Mathlib.Omega.{arith}

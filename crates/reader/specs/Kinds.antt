@@ -63,7 +63,7 @@ typeKind = record {
   answer = typeAnswer;
 }
 
--- `op=r,lo,hi`, where r is below the count of types, lo and hi below the horizon
+-- `op=r,lo,hi`, where r is below the count of types, lo and hi below the horizon, and lo is at most hi
 abbrev pub opKind : ℕ → ℕ → Kind Operation
 opKind types horizon = record {
   key = key.opKey;

@@ -1,4 +1,4 @@
--- What reading a sheet gives, for every byte string: 1, then line by line 2 before what the entry answers, or the sheet.
+-- What reading a sheet gives, for every byte string: 1, then line by line 2, 3 and 16 in that order, or the sheet.
 use Prim.Native.Nat.{ℕ}
 use mathlib.Core.List.{List, [], _∷_}
 use mathlib.Core.Bool.{cond}

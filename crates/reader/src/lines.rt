@@ -100,7 +100,7 @@ pub struct OpRead {
     pub next: usize,
 }
 
-// The line `op=r,lo,hi`, where r is below the count of types, lo and hi below the horizon.
+// The line `op=r,lo,hi`, where r is below the count of types, lo and hi below the horizon, and lo is at most hi.
 pub fn read_op(s: &[u8], at: usize, types: usize, horizon: usize) -> OpRead
     requires { ⌜ at ≤ length (now s) ⌝ }
     ensures { λ r. ⌜ Reads (now (s .entry)) (r .answer) (r .entry) (r .next) (lineFrom (opKind types horizon) (drop at (now (s .entry)))) ⌝ }

@@ -28,7 +28,7 @@ fn in_window(operation: Operation, t: usize) -> bool
     operation.lo <= t && t <= operation.hi
 }
 
-// Both.
+// Whether an operation may start at t, by the horizon and by its window.
 fn may_start(horizon: usize, latency: usize, operation: Operation, t: usize) -> bool
     ensures { λ r. ⌜ Says (InHorizon horizon latency t × InWindow (operation .lo) (operation .hi) t) r ⌝ }
 {

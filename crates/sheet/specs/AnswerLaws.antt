@@ -1,5 +1,5 @@
--- Laws of answers: a line answers 0 exactly if its numbers are in range, a sheet exactly if each of its lines does;
--- where an answer is not 0, it is that of the first line that refuses.
+-- Laws of answers: a line answers 0 exactly if its numbers are in range and its window, if it has one, is not empty; a
+-- sheet exactly if each of its lines does; where an answer is not 0, it is that of the first line that refuses.
 -- Assumes nothing.
 use mathlib.Core.Path.{_≡_, refl, sym, ap, subst, _∙_}
 use Prim.Native.Nat.{ℕ, zero, suc, _+_, _<_, _≤_}

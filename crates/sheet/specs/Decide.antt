@@ -56,7 +56,7 @@ op-decided types horizon o =
     (both (below (o .resource) types (ltb (o .resource) types) refl)
     (both (below (o .lo) horizon (ltb (o .lo) horizon) refl) (below (o .hi) horizon (ltb (o .hi) horizon) refl)))
 
--- question 16 of it
+-- question 16 of the line of an operation
 abbrev pub window-decided : (o : Operation) → Dec (NonEmptyWindow o)
 window-decided o = at-most (o .lo) (o .hi) (leb (o .lo) (o .hi)) refl
 

@@ -20,7 +20,7 @@ use Rattle.sheet.specs.Facts.{graph-latency}
 use Rattle.sheet.specs.Answer.{first, firstOf, numberAnswer, typeAnswer, opAnswer, edgeAnswer, typesAnswer, opsAnswer, edgesAnswer, sheetAnswer}
 use Rattle.sheet.specs.AnswerLaws.{sheet-in, sheet-inside}
 use Rattle.sheet.specs.Questions.{Asked, at-no, at-yes, OnSheet, AtInterval}
-use Rattle.sheet.specs.Loop.{Feasible, Loop, IfFeasible}
+use Rattle.sheet.specs.Loop.{Feasible, IfFeasible}
 
 -- the same horizon, cap, counts and entries below the counts; the arrays of operations have one size, that of every
 -- sheet (24)

@@ -1,6 +1,6 @@
 -- Laws: the order of the lines decides. The line of an operation that refuses, after lines that did not, answers for
--- the sheet, whatever later lines hold: 16 in an earlier line goes before 3 in a later one, 3 in an earlier line before
--- 16 in a later one, and 3 before 16 in one line. Assumes nothing.
+-- the sheet, whatever later lines hold: 16 of an earlier operation goes before 3 of a later one, 3 of an earlier one
+-- before 16 of a later one, and 3 before 16 in one line. Assumes nothing.
 use mathlib.Core.Path.{_≡_, ap, _∙_}
 use Prim.Native.Nat.{ℕ, _<_}
 use native.Mathlib.Omega.{arith}

@@ -13,14 +13,14 @@ use Rattle.starred_cases.specs.Claims.{Claim, refuses-outside, refuses-w
 abbrev type : ℕ → ℕ → ResourceType
 type a d = record { instances = a; latency = d }
 
--- of type r, with the window of the whole horizon
+-- of type r, with the window of the whole horizon: lo is 0, hi is H − 1
 abbrev op : ℕ → ℕ → Operation
 op horizon r = record { resource = r; lo = 0; hi = horizon - 1 }
 
 abbrev edge : ℕ → ℕ → ℤ → ℕ → Edge
 edge i j d b = record { from = i; to = j; delay = d; distance = b }
 
--- the sheet with these operations by their types: lo is 0 and hi is H − 1 for each
+-- the sheet with operations of these types
 abbrev plain : ℕ → ℕ → List ResourceType → List ℕ → List Edge → Sheet
 plain horizon cap types kinds edges = sheetOf horizon cap types (map (op horizon) kinds) edges
 

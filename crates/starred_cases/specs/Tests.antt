@@ -9,7 +9,6 @@ use lib.IntN.{ℤ, pos, _+ℤ_}
 use lib.Signed.{leZ, ltZ}
 use Rattle.laws.specs.Entry.{vec}
 use Rattle.dependence.specs.declared.Graph.{Graph}
-use Rattle.dependence.specs.declared.Edge.{Edge}
 use Rattle.dependence.specs.Graph.{edgeAt, total}
 use Rattle.dependence.specs.Rules.{sum}
 use Rattle.sheet.specs.declared.Sheet.{Sheet}

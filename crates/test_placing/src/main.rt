@@ -7,7 +7,7 @@ use libc::STDIN_FILENO;
 use libc::STDOUT_FILENO;
 
 // The most bytes of standard input that are looked at.
-const INPUT: usize = 262144;
+const INPUT: usize = 524288;
 
 fn answer(bytes: &[u8], lines: &[u8]) {
     io::write_all(STDOUT_FILENO, b"--\n");

@@ -3,7 +3,7 @@ use libc::STDIN_FILENO;
 use libc::STDOUT_FILENO;
 
 // The most bytes of standard input that are looked at.
-const INPUT: usize = 262144;
+const INPUT: usize = 524288;
 
 // Answers the piece at `at`, and gives the place after it; 0 where there is none.
 fn answer(input: &[u8], at: usize) -> usize {

@@ -4,7 +4,7 @@ use libc::STDIN_FILENO;
 use sheet::Sheet;
 
 // The most bytes of standard input that are looked at.
-const INPUT: usize = 262144;
+const INPUT: usize = 524288;
 
 // What the writer answers in the first n bytes of a buffer.
 fn write_short(sheet: Sheet, out: &mut [u8], n: usize) {

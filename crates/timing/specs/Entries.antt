@@ -8,7 +8,7 @@ use lib.IntN.{ℤ}
 use lib.Signed.{_≤ℤ_}
 use Rattle.laws.specs.Entry.{ZeroFrom}
 use Rattle.dependence.specs.Rules.{Earliest, Separation}
-use Rattle.dependence.specs.Answer.{Cell, cell-none, cell-some, Separations}
+use Rattle.dependence.specs.Answer.{Cell, cell-none, cell-some}
 use Rattle.dependence.specs.declared.loops.BadWalk as loops
 use Rattle.dependence.specs.declared.starts.Starts as starts
 use Rattle.dependence.specs.declared.bound.Bound as bounds
@@ -17,7 +17,7 @@ use Rattle.sheet.specs.declared.Operation.{Operation}
 use Rattle.sheet.specs.Sheet.{InRange, opAt, graphOf}
 use Rattle.sheet.specs.Questions.{at-no, at-yes}
 use Rattle.sheet.specs.Entries.{SameSheet, turn, range-same, interval-same, meets-same, chain-same, sum-same, feasible-same, on-sheet-same, at-interval-same, if-feasible-same}
-use Rattle.timing.specs.Answers.{withoutLoop, withLoop, startsRefused, startsLoop, tableRefused, boundRefused, EarliestIn, WalkAt, StartsAt, IfSeparations, SeparationsAt, SomeFeasible, IfSomeFeasible, RecurrenceAt}
+use Rattle.timing.specs.Answers.{withoutLoop, withLoop, startsRefused, startsLoop, tableRefused, boundRefused, WalkAt, StartsAt, IfSeparations, SeparationsAt, SomeFeasible, IfSomeFeasible, RecurrenceAt}
 
 module _ {s s' : Sheet} (e : SameSheet s s') where
   lo-same : {i : ℕ} → i < s .«op_count» → opAt s i .lo ≡ opAt s' i .lo

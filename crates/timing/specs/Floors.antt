@@ -1,5 +1,5 @@
--- The floor of each operation's start, as an array: the first clock of its window. And a law: over windows that begin at
--- 0 the earliest starts are those of 01. Assumes nothing.
+-- The floor of each operation's start, as an array: the first clock of its window. And a law: over windows that begin
+-- at 0 the earliest starts are those of 01. Assumes nothing.
 use mathlib.Core.Path.{_≡_}
 use mathlib.Core.List.{List}
 use Prim.Native.Nat.{ℕ, _<_}

@@ -69,8 +69,8 @@ pub fn earliest_starts(sheet: Sheet, interval: usize) -> Starts
     dependence::earliest(sheet::graph_of(sheet), interval, window_starts(ops))
 }
 
-// The separation table: each cell the greatest sum over walks of at least one edge, or the mark, whatever the horizon and
-// the windows. All 0 where `bad_walk` refuses.
+// The separation table: each cell the greatest sum over walks of at least one edge, or the mark, whatever the horizon
+// and the windows. All 0 where `bad_walk` refuses.
 pub fn separations(sheet: Sheet, interval: usize) -> [[i32; MOST_OPERATIONS]; MOST_OPERATIONS]
     ensures { λ r. ⌜ SeparationsAt sheet interval r ⌝ }
 {

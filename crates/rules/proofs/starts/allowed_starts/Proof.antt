@@ -1,5 +1,5 @@
--- `rules::allowed_starts` meets its contract: each start passed has its flag, by the latency of the operation's type and
--- the operation's window.
+-- `rules::allowed_starts` meets its contract: each start passed has its flag, by the latency of the operation's type
+-- and by the operation's window.
 -- Assumes nothing.
 use mathlib.Core.Path.{_≡_, sym, ap, subst}
 use mathlib.Core.Bool.{Bool, false}
