@@ -3,8 +3,9 @@
 
    Each call takes the bytes of a loop sheet and their count; a null pointer with count 0 is an empty sheet (2).
    Each returns an answer and one number, which is 0 with every answer but 0. Nothing is kept between calls.
-   Sheet and buffer must not overlap. Calls take stack: about 0.4 MB was the most measured, 0.8 MB is the most by the
-   shape of the code (docs/PERFORMANCE.md); a thread with less may overflow its stack.
+   The buffer must not overlap the sheet, the starts or the instances. Calls take stack: about 0.4 MB was the most
+   measured, 0.8 MB is the most by the shape of the code (docs/PERFORMANCE.md); a thread with less may overflow its
+   stack.
 
    Answers of every call, put in this order:
      0  the number is what was asked for
@@ -49,6 +50,22 @@ leastplan_text leastplan_plan_text(
      14  no such pair: the number is not below N * (N - 1) / 2
      15  the two operations are not of one limited type */
 leastplan_order leastplan_slot_order(const uint8_t *sheet, size_t sheet_length, size_t interval, size_t pair);
+
+/* Room for any page: a heading and 64 slots for each of 8 types, 45 bytes each. */
+#define LEASTPLAN_PAGE_ROOM 23400
+
+/* The page of a plan for the cabinet door: its reservation table, for each limited type a heading and a line for each
+   slot, at the front of the buffer; the number is its count of bytes, (L + 1) * 45 for each limited type at interval L.
+   Operation i starts at starts[i] on instance instances[i]; dependences, windows and the end of the frame are not
+   judged. The bytes past the text, and null pointers, are as with the plan text.
+     4   as above
+     9   the buffer does not take the whole page; this is asked before 10
+     10  there is not one start and one instance for each operation, a start is not below the horizon, an instance is
+         not one of its type's (0 for an unlimited type), or two operations of one limited type have the same instance
+         and the same slot (start mod L) */
+leastplan_text leastplan_page(
+    const uint8_t *sheet, size_t sheet_length, size_t interval, const size_t *starts, size_t start_count,
+    const size_t *instances, size_t instance_count, uint8_t *buffer, size_t room);
 
 #ifdef __cplusplus
 }

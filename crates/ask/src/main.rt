@@ -1,6 +1,8 @@
-// ask: a command on a loop sheet, `ask COMMAND [interval=L] [pair=P]`, with the sheet on standard input.
-// The library says what the words ask for, `words::request`, and all that is then printed, `commands::answer`. With
-// words that ask for no command it says so on standard error, reads nothing and prints nothing.
+// ask: a command on a loop sheet, `ask COMMAND [interval=L] [pair=P]`, with the sheet on standard input, and for
+// `page_of_plan` the lines of a plan at descriptor 3.
+// The library says what the words ask for, `words::request`, what a plan's lines say, `plan_lines::read`, and all that is
+// then printed, `commands::answer` and `commands::page_of_plan`. With words that ask for no command, and with lines that
+// are no plan at the interval, it says so on standard error, reads no sheet and prints nothing.
 use commands::ROOM;
 use libc::STDIN_FILENO;
 use libc::STDOUT_FILENO;
@@ -13,8 +15,11 @@ use words::NOTHING;
 
 mod told; // told.rt: what is said on standard error
 
-// One byte more than a sheet may have, so that a longer one is told.
+// One byte more than a sheet may have, so that a longer one is told. A plan's lines have far fewer.
 const INPUT: usize = LONGEST_SHEET + 1;
+
+// Where the lines of a plan are read.
+const PLAN_FILENO: i32 = 3;
 
 // Room for the name of a command; a longer word is none.
 const LONGEST_NAME: usize = 16;
@@ -56,11 +61,47 @@ fn print(command: Command) {
     io::write_all(STDOUT_FILENO, &out[..count]);
 }
 
+// The same for the page of a plan, by its starts and instances.
+fn print_page(interval: usize, starts: &[usize], instances: &[usize]) {
+    let mut input = [0u8; INPUT];
+    let n = io::read_full(STDIN_FILENO, &mut input);
+    let mut out = [0u8; ROOM];
+    let written: Written = commands::page_of_plan(
+        &input[..n],
+        interval,
+        starts,
+        instances,
+        &mut out,
+    );
+    let count = written.count;
+    io::write_all(STDOUT_FILENO, &out[..count]);
+}
+
+// Reads the plan, and prints its page if it is one at the interval.
+fn print_plan(interval: usize) {
+    let mut input = [0u8; INPUT];
+    let n = io::read_full(PLAN_FILENO, &mut input);
+    let plan = plan_lines::read(&input[..n]);
+    if !plan.ok {
+        told::no_plan();
+        return;
+    }
+    if plan.interval != interval {
+        told::another_interval();
+        return;
+    }
+    let count = plan.count;
+    let starts = plan.starts;
+    let instances = plan.instances;
+    print_page(interval, &starts[..count], &instances[..count]);
+}
+
 fn main() {
     let mut name = [0u8; LONGEST_NAME];
     let n = os::arg(1, &mut name);
     match words::request(&name[..n], arguments()) {
         Asked::Do(command) => print(command),
+        Asked::PageOfPlan(interval) => print_plan(interval),
         Asked::Unknown => told::unknown(),
         Asked::Strange => told::strange(),
         Asked::Missing(argument) => told::fault(argument, b" is missing"),

@@ -1,4 +1,4 @@
-// What is said on standard error where the words ask for no command. The script `leastplan` speaks to the person, so its
+// What is said on standard error where the words ask for no command, or the lines of a plan are none. The script `leastplan` speaks to the person, so its
 // name stands first. The words themselves are not repeated.
 use libc::STDERR_FILENO;
 use words::INTERVAL;
@@ -29,4 +29,15 @@ pub fn fault(argument: usize, wrong: &[u8]) {
     } else {
         line(b"pair=", wrong);
     }
+}
+
+pub fn no_plan() {
+    line(
+        b"the plan",
+        b" is not answer=0, interval=L and at most 24 lines at=t,u, as leastplan prints them",
+    );
+}
+
+pub fn another_interval() {
+    line(b"the plan", b" is of another interval than interval=");
 }

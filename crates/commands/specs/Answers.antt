@@ -29,12 +29,13 @@ use Rattle.timing.specs.Answers.{WalkAt, SeparationsAt}
 use Rattle.plan.specs.declared.PlanAnswer.{PlanAnswer}
 use Rattle.plan.specs.Answers.{refused, PlanAt}
 use Rattle.slot_order.specs.declared.SlotOrder.{SlotOrder}
+use Rattle.page.specs.Answers.{planPage}
 use Rattle.report.specs.Print.{answerLine, intervalLine, loopLine, intervalLines}
 use Rattle.report.specs.PlanText.{planText}
 use Rattle.report.specs.IntervalText.{IntervalText, refusal, lines, asked-unique}
 use Rattle.report.specs.Small.{small}
 use Rattle.report.specs.Bounds.{lines-most}
-use Rattle.commands.specs.Listing.{answerAt, boundLines, planLines, orderLines}
+use Rattle.commands.specs.Listing.{answerAt, boundLines, planLines, denialLines, orderLines, firstPage}
 use Rattle.words.specs.declared.Command.the-variants.{Plan, Write}
 use Rattle.commands.specs.Prints.{Serves, plan, write, Put}
 use Rattle.commands.specs.Shows.{Lists}
@@ -73,19 +74,35 @@ bound-short key n v = at (eqb n 0)
     at true = omega arith
     at false = omega arith
 
+-- why there is no plan, with a loop and without
+module _ (n : ℕ) (loop : List ℕ) where
+  pub denial-loop : n ≡ 5 → denialLines n loop ≡ answerLine n ∷ loopLine loop ∷ []
+  unfolding denialLines
+  denial-loop e = rw (eq-eqb n 5 e)
+
+  pub denial-else : (n ≡ 5 → ⊥) → denialLines n loop ≡ answerLine n ∷ []
+  unfolding denialLines
+  denial-else e = rw (ne-eqb n 5 e)
+
 -- the slot order's lines
 module _ (a : SlotOrder) where
   pub order-given : a .answer ≡ 0 → orderLines a ≡ answerLine (a .answer) ∷ countLine orderKey (a .order) ∷ []
   unfolding orderLines
   order-given e = rw (eq-eqb (a .answer) 0 e)
 
-  pub order-loop : a .answer ≡ 5 → orderLines a ≡ answerLine (a .answer) ∷ loopLine (take (a .«loop_length») (a .«loop_edges»)) ∷ []
+  pub order-denied : (a .answer ≡ 0 → ⊥) → orderLines a ≡ denialLines (a .answer) (take (a .«loop_length») (a .«loop_edges»))
   unfolding orderLines
-  order-loop e = rw (ne-eqb (a .answer) 0 (λ z. omega arith), eq-eqb (a .answer) 5 e)
+  order-denied e = rw (ne-eqb (a .answer) 0 e)
 
-  pub order-else : (a .answer ≡ 0 → ⊥) → (a .answer ≡ 5 → ⊥) → orderLines a ≡ answerLine (a .answer) ∷ []
-  unfolding orderLines
-  order-else e f = rw (ne-eqb (a .answer) 0 e, ne-eqb (a .answer) 5 f)
+-- the page of the first plan
+module _ (s : Sheet) (L : ℕ) (a : PlanAnswer) where
+  pub page-given : a .answer ≡ 0 → firstPage s L a ≡ planPage s L (a .starts) (a .instances)
+  unfolding firstPage
+  page-given e = rw (eq-eqb (a .answer) 0 e)
+
+  pub page-denied : (a .answer ≡ 0 → ⊥) → firstPage s L a ≡ linesText (denialLines (a .answer) (take (a .«loop_length») (a .«loop_edges»)))
+  unfolding firstPage
+  page-denied e = rw (ne-eqb (a .answer) 0 e)
 
 -- ---- a list of lines that is put into the buffer
 

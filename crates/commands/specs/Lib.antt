@@ -5,4 +5,5 @@ pub mod Prints
 pub mod Shows
 pub mod Printable
 pub mod Answers
+pub mod Pages
 pub mod Unique

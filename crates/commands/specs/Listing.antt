@@ -8,7 +8,7 @@ use lib.ListN.{take}
 use lib.Signed.{leZ}
 use Rattle.laws.specs.Entry.{vec, cell}
 use Rattle.text.specs.Keys as key
-use Rattle.text.specs.Lines.{Line, countLine}
+use Rattle.text.specs.Lines.{Line, linesText, countLine}
 use Rattle.text.specs.Text.{noNumber}
 use Rattle.walks.specs.Found.{noWalk}
 use Rattle.dependence.specs.declared.bound.Bound as recurrence
@@ -18,9 +18,10 @@ use Rattle.plan.specs.declared.resource.Bound as resource
 use Rattle.plan.specs.declared.PlanAnswer.{PlanAnswer}
 use Rattle.slot_order.specs.declared.SlotOrder.{SlotOrder}
 use Rattle.sheet.specs.declared.Sheet.{Sheet}
+use Rattle.page.specs.Answers.{planPage}
 use Rattle.report.specs.Print.{answerLine, intervalLine, loopLine, each, intervalLines}
 use Rattle.words.specs.declared.Command.{Command}
-use Rattle.words.specs.declared.Command.the-variants.{Bounds, Starts, Separations, Plan, Order, Check, Write}
+use Rattle.words.specs.declared.Command.the-variants.{Bounds, Starts, Separations, Plan, Page, Order, Check, Write}
 
 -- ---- bounds
 
@@ -66,12 +67,21 @@ separationsLines s L w t = answerAt (w .answer) L (take (w .«loop_length») (w 
 unfoldable pub planLines : Sheet → ℕ → PlanAnswer → List Line
 planLines s L a = cond (eqb (a .answer) 4) (answerLine (a .answer) ∷ []) (intervalLines s L a)
 
--- the slot order: with 0 the order, with 5 the loop
+-- why there is no plan: the answer, and with 5 the loop
+unfoldable pub denialLines : ℕ → List ℕ → List Line
+denialLines n loop = answerLine n ∷ cond (eqb n 5) (loopLine loop ∷ []) []
+
+-- the slot order, or why there is none
 unfoldable pub orderLines : SlotOrder → List Line
 orderLines a =
-    answerLine (a .answer) ∷
-    cond (eqb (a .answer) 0) (countLine key.orderKey (a .order) ∷ [])
-    (cond (eqb (a .answer) 5) (loopLine (take (a .«loop_length») (a .«loop_edges»)) ∷ []) [])
+    cond (eqb (a .answer) 0) (answerLine (a .answer) ∷ countLine key.orderKey (a .order) ∷ [])
+    (denialLines (a .answer) (take (a .«loop_length») (a .«loop_edges»)))
+
+-- the page of the plan and nothing else, or why there is none
+unfoldable pub firstPage : Sheet → ℕ → PlanAnswer → List ℕ
+firstPage s L a =
+    cond (eqb (a .answer) 0) (planPage s L (a .starts) (a .instances))
+    (linesText (denialLines (a .answer) (take (a .«loop_length») (a .«loop_edges»))))
 
 -- ---- a refused sheet
 
@@ -81,6 +91,7 @@ refusalLines Bounds n line = answerLine n ∷ []
 refusalLines (Starts L) n line = answerLine n ∷ []
 refusalLines (Separations L) n line = answerLine n ∷ []
 refusalLines (Plan L) n line = answerLine n ∷ []
+refusalLines (Page L) n line = answerLine n ∷ []
 refusalLines (Order L pair) n line = answerLine n ∷ []
 refusalLines Check n line = answerLine n ∷ countLine key.lineKey line ∷ []
 refusalLines Write n line = answerLine n ∷ []

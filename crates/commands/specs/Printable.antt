@@ -71,6 +71,13 @@ module _ {s : Sheet} (ok : InRange s) where
     pub walk-inside : {w : loops.BadWalk} → WalkAt s L w → w .answer ≡ 0 → L ≤ greatestNumber
     walk-inside = inside (λ (a : loops.BadWalk). a .answer) (λ (a : loops.BadWalk). a .«loop_edges») withoutLoop withLoop refl (λ _ _. refl) (λ _ _. refl)
 
+    pub plan-sized : {a : PlanAnswer} → plan.PlanAt s L a → Sized (a .answer) L (a .«loop_edges»)
+    plan-sized = sized (λ (a : PlanAnswer). a .answer) (λ (a : PlanAnswer). a .«loop_edges») plan.refused plan.looped refl (λ _ _. refl) (λ _ _. refl) others
+      where
+        others : (a : PlanAnswer) → plan.IfPlan s L a → (a .answer ≤ threeDigits) × (a .answer ≡ 5 → ⊥)
+        others a (at-no _ p) = let e = ap (λ (a : PlanAnswer). a .answer) p in (omega arith, λ z. omega arith)
+        others a (at-yes _ g) = let e = ap (λ (a : PlanAnswer). a .answer) (g .pinned) in (omega arith, λ z. omega arith)
+
   -- ---- question 4
 
   pub asked-four : {L n : ℕ} → AskedAt s L n → (n ≡ 0 → ⊥) → n ≡ 4

@@ -13,6 +13,7 @@ use Rattle.dependence.specs.declared.loops.BadWalk as loops
 use Rattle.dependence.specs.declared.starts.Starts as earliest
 use Rattle.sheet.specs.declared.Sheet.{Sheet}
 use Rattle.sheet.specs.Text.{sheetText}
+use Rattle.sheet.specs.Questions.{Asked, Is, AtInterval}
 use Rattle.reader.specs.Read.{readOf}
 use Rattle.reader.specs.Fault.{faultOf}
 use Rattle.timing.specs.Answers.{WalkAt, StartsAt, SeparationsAt, RecurrenceAt}
@@ -22,10 +23,11 @@ use Rattle.plan.specs.Resource.{ResourceAt}
 use Rattle.plan.specs.Answers.{PlanAt}
 use Rattle.slot_order.specs.declared.SlotOrder.{SlotOrder}
 use Rattle.slot_order.specs.Answers.{SlotOrderAt}
+use Rattle.page.specs.Answers.{planPage, FullTable}
 use Rattle.report.specs.Print.{answerLine}
 use Rattle.words.specs.declared.Command.{Command}
-use Rattle.words.specs.declared.Command.the-variants.{Bounds, Starts, Separations, Plan, Order, Check, Write}
-use Rattle.commands.specs.Listing.{boundsLines, startsLines, separationsLines, planLines, orderLines, refusalLines}
+use Rattle.words.specs.declared.Command.the-variants.{Bounds, Starts, Separations, Plan, Page, Order, Check, Write}
+use Rattle.commands.specs.Listing.{boundsLines, startsLines, separationsLines, planLines, orderLines, firstPage, refusalLines}
 
 -- of a sheet that was read: the lines of the service's answer; `check` has nothing to add, `write` gives the sheet's
 -- own text
@@ -34,6 +36,7 @@ pub data Serves (s : Sheet) : Command → List ℕ → Type 0 where
   starts : {L : ℕ} {a : earliest.Starts} → StartsAt s L a → Serves s (Starts L) (linesText (startsLines s L a))
   separations : {L : ℕ} {w : loops.BadWalk} {t : List (List ℤ)} → WalkAt s L w → SeparationsAt s L t → Serves s (Separations L) (linesText (separationsLines s L w t))
   plan : {L : ℕ} {a : PlanAnswer} → PlanAt s L a → Serves s (Plan L) (linesText (planLines s L a))
+  page : {L : ℕ} {a : PlanAnswer} → PlanAt s L a → Serves s (Page L) (firstPage s L a)
   order : {L pair : ℕ} {a : SlotOrder} → SlotOrderAt s L pair a → Serves s (Order L pair) (linesText (orderLines a))
   check : Serves s Check (linesText (answerLine 0 ∷ []))
   write : Serves s Write (sheetText s)
@@ -43,9 +46,25 @@ pub data Prints (bytes : List ℕ) (command : Command) : List ℕ → Type 0 whe
   refused : (readOf bytes .answer ≡ 0 → ⊥) → Prints bytes command (linesText (refusalLines command (readOf bytes .answer) (faultOf bytes)))
   read : readOf bytes .answer ≡ 0 → {text : List ℕ} → Serves (readOf bytes .sheet) command text → Prints bytes command text
 
--- bytes that are enough for whatever a command prints
+-- ---- a plan that is given besides the sheet, by its starts and instances
+
+-- the number of a refusal alone
+abbrev pub refusalText : ℕ → List ℕ
+refusalText n = linesText (answerLine n ∷ [])
+
+-- of a sheet that was read: 4 and 10, then the plan's page
+abbrev pub PageOf : Sheet → ℕ → List ℕ → List ℕ → List ℕ → Type 0
+PageOf s L ts us = AtInterval refusalText s L (Asked (FullTable s L ts us) (Is (refusalText 10)) (Is (planPage s L ts us)))
+
+-- of the bytes of a sheet
+abbrev pub PrintsPage : List ℕ → ℕ → List ℕ → List ℕ → List ℕ → Type 0
+PrintsPage bytes L ts us = Asked (readOf bytes .answer ≡ 0) (Is (refusalText (readOf bytes .answer))) (PageOf (readOf bytes .sheet) L ts us)
+
+-- ---- the lent buffer
+
+-- bytes that are enough for whatever is printed
 abbrev pub room : ℕ
-room = 8192
+room = 24576
 
 -- a text of which P holds, at the front of the buffer old where the whole of it fits, else 9
 pub record Put (P : List ℕ → Type 0) (old : List ℕ) (r : Written) (new : List ℕ) : Type 0 where
@@ -58,3 +77,7 @@ pub record Put (P : List ℕ → Type 0) (old : List ℕ) (r : Written) (new : L
 -- all that a command prints
 abbrev pub Answered : Command → List ℕ → List ℕ → Written → List ℕ → Type 0
 Answered command bytes = Put (Prints bytes command)
+
+-- all that is printed of a plan that is given besides
+abbrev pub AnsweredPage : List ℕ → ℕ → List ℕ → List ℕ → List ℕ → Written → List ℕ → Type 0
+AnsweredPage bytes L ts us = Put (PrintsPage bytes L ts us)

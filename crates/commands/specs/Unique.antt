@@ -1,5 +1,5 @@
--- At most one text fits a command and the bytes of a sheet, and so one answer and one buffer; and `write` gives the
--- sheet's own bytes back. Assumes nothing.
+-- At most one text fits a command and the bytes of a sheet, or those and a plan, and so one answer and one buffer; and
+-- `write` gives the sheet's own bytes back. Assumes nothing.
 use mathlib.Core.Path.{_≡_, refl, sym, ap, ap₂, _∙_}
 use mathlib.Core.List.{List, _∷_}
 use Prim.Native.Nat.{ℕ, zero, suc, _<_}
@@ -19,7 +19,7 @@ use Rattle.dependence.specs.Unique.{separations-one}
 use Rattle.sheet.specs.declared.Sheet.{Sheet}
 use Rattle.sheet.specs.Sheet.{InRange}
 use Rattle.sheet.specs.Facts.{ops-most, graph-in-range, interval-in-range}
-use Rattle.sheet.specs.Questions.{One, at-no, at-yes}
+use Rattle.sheet.specs.Questions.{One, is-one, asked-one, at-interval-one, at-no, at-yes}
 use Rattle.reader.specs.Read.{readOf}
 use Rattle.round_trip.specs.RoundTrip.{writes-back}
 use Rattle.timing.specs.Answers.{SeparationsAt}
@@ -33,9 +33,9 @@ use Rattle.report.specs.Print.{each}
 use Rattle.report.specs.Reading.{read-in-range}
 use Rattle.words.specs.declared.Command.{Command}
 use Rattle.words.specs.declared.Command.the-variants.{Write}
-use Rattle.commands.specs.Listing.{cellOf, rowLine, boundsLines, startsLines, separationsLines, planLines, orderLines, answerAt}
+use Rattle.commands.specs.Listing.{cellOf, rowLine, boundsLines, startsLines, separationsLines, planLines, orderLines, firstPage, answerAt}
 use Rattle.commands.specs.Prints as prints
-use Rattle.commands.specs.Prints.{Serves, Prints, Answered}
+use Rattle.commands.specs.Prints.{Serves, Prints, refusalText, PrintsPage, Put, Answered, AnsweredPage}
 
 each-same : {A : Type 0} (n : ℕ) (f g : ℕ → A) → ((i : ℕ) → i < n → f i ≡ g i) → each n f ≡ each n g
 unfolding each
@@ -75,6 +75,7 @@ module _ {s : Sheet} (ok : InRange s) where
   serves-one c _ _ (prints.separations {L} {w} {t} p q) (prints.separations {w = v} {t = u} r z) =
       ap linesText (rows-one w q z) ∙ ap (λ (x : loops.BadWalk). linesText (separationsLines s L x u)) (walk-at-unique _ _ p r)
   serves-one c _ _ (prints.plan {L} p) (prints.plan q) = ap (λ (a : PlanAnswer). linesText (planLines s L a)) (plan-at-unique _ _ p q)
+  serves-one c _ _ (prints.page {L} p) (prints.page q) = ap (firstPage s L) (plan-at-unique _ _ p q)
   serves-one c _ _ (prints.order p) (prints.order q) = ap (λ (a : SlotOrder). linesText (orderLines a)) (slot-order-unique _ _ p q)
   serves-one c _ _ prints.check prints.check = refl
   serves-one c _ _ prints.write prints.write = refl
@@ -85,13 +86,23 @@ prints-one _ _ (prints.refused n) (prints.read z _) = absurd (n z)
 prints-one _ _ (prints.read z _) (prints.refused n) = absurd (n z)
 prints-one {bytes} {c} x y (prints.read z p) (prints.read _ q) = serves-one (read-in-range bytes z) c x y p q
 
--- at most one answer and one buffer fit
-pub once : {bytes old : List ℕ} {c : Command} {r r′ : Written} {new new′ : List ℕ} → Answered c bytes old r new → Answered c bytes old r′ new′ → (r ≡ r′) × (new ≡ new′)
-once {old = old} p q =
-    let e = prints-one (p .text) (q .text) (p .holds) (q .holds) in (
+page-one : {bytes ts us : List ℕ} {L : ℕ} → One (PrintsPage bytes L ts us)
+page-one = asked-one (is-one _) (at-interval-one refusalText (asked-one (is-one (refusalText 10)) (is-one _)))
+
+put-one : {P : List ℕ → Type 0} {old : List ℕ} {r r′ : Written} {new new′ : List ℕ} → One P → Put P old r new → Put P old r′ new′ → (r ≡ r′) × (new ≡ new′)
+put-one {old = old} one p q =
+    let e = one (p .text) (q .text) (p .holds) (q .holds) in (
       p .answer ∙ ap (λ (t : List ℕ). writtenOf t old) e ∙ sym (q .answer),
       p .buffer ∙ ap (λ (t : List ℕ). bufferOf t old) e ∙ sym (q .buffer),
     )
+
+-- at most one answer and one buffer fit
+pub once : {bytes old : List ℕ} {c : Command} {r r′ : Written} {new new′ : List ℕ} → Answered c bytes old r new → Answered c bytes old r′ new′ → (r ≡ r′) × (new ≡ new′)
+once = put-one prints-one
+
+pub page-once : {bytes ts us old : List ℕ} {L : ℕ} {r r′ : Written} {new new′ : List ℕ}
+    → AnsweredPage bytes L ts us old r new → AnsweredPage bytes L ts us old r′ new′ → (r ≡ r′) × (new ≡ new′)
+page-once = put-one page-one
 
 -- what `write` prints of an accepted sheet are its own bytes
 pub own-bytes : {bytes text : List ℕ} → readOf bytes .answer ≡ 0 → Prints bytes Write text → text ≡ bytes

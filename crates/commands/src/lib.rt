@@ -1,23 +1,24 @@
-// What each command prints for the bytes of a sheet: the lines of a service's answer, at the front of a lent buffer.
-// `words` says what is asked for; the program `ask` prints these bytes.
+// What each command prints for the bytes of a sheet: the lines of a service's answer, or a page, at the front of a lent
+// buffer. `words` says what is asked for; the program `ask` prints these bytes.
 ghost use Prim.Native.Nat.{_≤_};
 ghost use Rattle.text.specs.Sizes.{greatestNumber};
 ghost use Rattle.sheet.specs.Sheet.{InRange};
 ghost use Rattle.round_trip.specs.Accepted.{Arrays};
 ghost use Rattle.commands.specs.Listing.{refusalLines};
-ghost use Rattle.commands.specs.Prints.{Put, Serves, Answered};
+ghost use Rattle.commands.specs.Prints.{Put, Serves, Answered, AnsweredPage};
 ghost use Rattle.commands.specs.Shows.{Shows};
 use lines::Lines;
 use sheet::Sheet;
 use text::Written;
 use words::Command;
 
+mod pages; // pages.rt: pages of plans
 mod parts; // parts.rt: lines that several answers share
 mod rows; // rows.rt: the rows of the separation table
 mod services; // services.rt: the lines of each service's answer
 
 // Room for whatever a command prints.
-pub const ROOM: usize = 8192;
+pub const ROOM: usize = 24576;
 
 // The lines that leastplan prints for the interval; the answer alone where the interval is refused.
 fn plan(sheet: Sheet, interval: usize, out: &mut [u8]) -> Written
@@ -41,6 +42,7 @@ fn serve(command: Command, sheet: Sheet, out: &mut [u8]) -> Written
         Command::Starts(interval) => lines::put(out, services::starts(sheet, interval)),
         Command::Separations(interval) => lines::put(out, services::separations(sheet, interval)),
         Command::Plan(interval) => plan(sheet, interval, out),
+        Command::Page(interval) => pages::first(sheet, interval, out),
         Command::Order(interval, pair) => lines::put(out, services::order(sheet, interval, pair)),
         Command::Check => lines::put(out, parts::alone(0)),
         Command::Write => writer::write(sheet, out),
@@ -74,4 +76,24 @@ pub fn answer(command: Command, bytes: &[u8], out: &mut [u8]) -> Written
     }
     let sheet = read.sheet;
     serve(command, sheet, out)
+}
+
+// All that is printed for the bytes of a sheet and a plan that is given besides, by its starts and instances: the plan's
+// page, or the refusal's number alone; into `out` as by `answer`.
+pub fn page_of_plan(
+    bytes: &[u8],
+    interval: usize,
+    starts: &[usize],
+    instances: &[usize],
+    out: &mut [u8],
+) -> Written
+    ensures { λ r. ⌜ AnsweredPage (now (bytes .entry)) interval (now (starts .entry)) (now (instances .entry)) (now (out .entry)) r (now (out .exit)) ⌝ }
+{
+    let read = reader::read(bytes);
+    let refusal = read.answer;
+    if refusal != 0 {
+        return lines::put(out, parts::alone(refusal));
+    }
+    let sheet = read.sheet;
+    pages::given(sheet, interval, starts, instances, out)
 }

@@ -8,7 +8,7 @@ ghost use Rattle.text.specs.Lines.{Line};
 ghost use Rattle.text.specs.Line.{keyOf};
 ghost use Rattle.text.specs.Sizes.{greatestNumber};
 ghost use Rattle.report.specs.Print.{answerLine, intervalLine, loopLine};
-ghost use Rattle.commands.specs.Listing.{boundLines, answerAt};
+ghost use Rattle.commands.specs.Listing.{boundLines, answerAt, denialLines};
 ghost use Rattle.commands.specs.Shows.{Shows, Printable, Sized};
 use lines::Lines;
 use sizes::MOST_OPERATIONS;
@@ -54,6 +54,18 @@ pub fn refused(
         return looped(headed(answer, interval), count, edges);
     }
     alone(answer)
+}
+
+// Why there is no plan: the answer, and with 5 the loop.
+pub fn denied(answer: usize, count: usize, edges: [usize; MOST_OPERATIONS]) -> Lines
+    requires { ⌜ (answer ≤ greatestNumber) × (answer ≡ 5 → Printable edges) ⌝ }
+    ensures { λ r. ⌜ Shows r (denialLines answer (take count edges)) ⌝ }
+{
+    let answered = alone(answer);
+    if answer == INFEASIBLE {
+        return looped(answered, count, edges);
+    }
+    answered
 }
 
 // A bound after other lines: its answer and, where that is 0, its value under the key.

@@ -81,13 +81,10 @@ pub fn order(sheet: Sheet, interval: usize, pair: usize) -> Lines
     ensures { λ r. ⌜ Lists (Serves sheet (Command.Order interval pair)) r ⌝ }
 {
     let found = slot_order::slot_order(sheet, interval, pair);
-    let answered = parts::alone(found.answer);
     if found.answer == 0 {
+        let answered = parts::alone(found.answer);
         return lines::with(answered, text::count_line(text::ORDER, found.order));
     }
-    if found.answer == parts::INFEASIBLE {
-        let edges = found.loop_edges;
-        return parts::looped(answered, found.loop_length, edges);
-    }
-    answered
+    let edges = found.loop_edges;
+    parts::denied(found.answer, found.loop_length, edges)
 }

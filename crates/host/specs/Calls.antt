@@ -5,10 +5,12 @@ use mathlib.Core.List.{List}
 use Rattle.text.specs.declared.Written.{Written}
 use Rattle.text.specs.Line as line
 use Rattle.sheet.specs.declared.Sheet.{Sheet}
+use Rattle.sheet.specs.Questions.{Asked, at-no, at-yes, Is}
 use Rattle.reader.specs.declared.ReadAnswer.{ReadAnswer}
 use Rattle.reader.specs.Read.{readOf}
 use Rattle.plan.specs.declared.IntervalAnswer.{IntervalAnswer}
 use Rattle.plan.specs.Answers.{LeastInterval}
+use Rattle.page.specs.Answers.{PageAnswer, pageRefused, PageAt}
 use Rattle.report.specs.declared.PlanWritten.{PlanWritten}
 use Rattle.report.specs.PlanText.{PlanText}
 use Rattle.slot_order.specs.declared.SlotOrder.{SlotOrder}
@@ -38,6 +40,11 @@ pub data SlotOrderOf (bytes : List ℕ) (L pair : ℕ) : OrderAnswer → Type 0 
   unread-order : (readOf bytes .answer ≡ 0 → ⊥) → SlotOrderOf bytes L pair (record { answer = readOf bytes .answer; order = 0 })
   served-order : readOf bytes .answer ≡ 0 → {r : SlotOrder} → SlotOrderAt (readOf bytes .sheet) L pair r → SlotOrderOf bytes L pair (orderAnswer r)
 
+-- page into the lent buffer old
+abbrev pub PageFor : List ℕ → ℕ → List ℕ → List ℕ → List ℕ → PageAnswer → Type 0
+PageFor bytes L ts us old =
+    Asked (readOf bytes .answer ≡ 0) (Is (pageRefused old (readOf bytes .answer))) (PageAt (readOf bytes .sheet) L ts us old)
+
 -- from what reading gave
 module _ (bytes : List ℕ) {q : ReadAnswer} (e : q ≡ readOf bytes) where
   same-answer : q .answer ≡ readOf bytes .answer
@@ -60,3 +67,9 @@ module _ (bytes : List ℕ) {q : ReadAnswer} (e : q ≡ readOf bytes) where
 
   pub order-served : {L pair : ℕ} {r : SlotOrder} → q .answer ≡ 0 → SlotOrderAt (q .sheet) L pair r → SlotOrderOf bytes L pair (orderAnswer r)
   order-served {L} {pair} {r} z l = served-order (sym same-answer ∙ z) (subst (λ (s : Sheet). SlotOrderAt s L pair r) (ap (λ (x : ReadAnswer). x .sheet) e) l)
+
+  pub page-unread : {L : ℕ} {ts us old : List ℕ} → (q .answer ≡ 0 → ⊥) → PageFor bytes L ts us old (pageRefused old (q .answer))
+  page-unread {old = old} n = at-no (λ z. n (same-answer ∙ z)) (ap (pageRefused old) same-answer)
+
+  pub page-served : {L : ℕ} {ts us old : List ℕ} {a : PageAnswer} → q .answer ≡ 0 → PageAt (q .sheet) L ts us old a → PageFor bytes L ts us old a
+  page-served {L} {ts} {us} {old} {a} z p = at-yes (sym same-answer ∙ z) (subst (λ (s : Sheet). PageAt s L ts us old a) (ap (λ (x : ReadAnswer). x .sheet) e) p)

@@ -4,12 +4,14 @@ use mathlib.Core.Path.{_≡_, refl, ap}
 use mathlib.Core.List.{List}
 use Prim.Native.Nat.{ℕ}
 use Rattle.text.specs.declared.Written.{Written}
+use Rattle.sheet.specs.Questions.{One, is-one, asked-one}
 use Rattle.plan.specs.declared.IntervalAnswer.{IntervalAnswer}
 use Rattle.plan.specs.Unique.{least-unique}
 use Rattle.report.specs.PlanText.{once}
 use Rattle.slot_order.specs.Unique.{slot-order-unique}
+use Rattle.page.specs.Unique.{page-unique}
 use Rattle.host.specs.declared.OrderAnswer.{OrderAnswer}
-use Rattle.host.specs.Calls.{LeastOf, unread, served, PlanTextOf, unread-text, served-text, SlotOrderOf, unread-order, served-order, textAnswer, orderAnswer}
+use Rattle.host.specs.Calls.{LeastOf, unread, served, PlanTextOf, unread-text, served-text, SlotOrderOf, unread-order, served-order, textAnswer, orderAnswer, PageFor}
 
 -- least interval
 pub least-of-unique : {bytes : List ℕ} {r r' : IntervalAnswer} → LeastOf bytes r → LeastOf bytes r' → r ≡ r'
@@ -31,3 +33,7 @@ slot-order-of-unique (unread-order n) (unread-order m) = refl
 slot-order-of-unique (unread-order n) (served-order z b) = absurd (n z)
 slot-order-of-unique (served-order z a) (unread-order m) = absurd (m z)
 slot-order-of-unique (served-order z a) (served-order y b) = ap orderAnswer (slot-order-unique _ _ a b)
+
+-- page: the answer and the buffer
+pub page-for-unique : {bytes ts us old : List ℕ} {L : ℕ} → One (PageFor bytes L ts us old)
+page-for-unique = asked-one (is-one _) page-unique

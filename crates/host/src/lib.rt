@@ -1,6 +1,8 @@
-// C calls on the bytes of a sheet: least interval, plan text, slot order. They read the sheet and call the service;
-// include/leastplan.h describes them.
-ghost use Rattle.host.specs.Calls.{LeastOf, PlanTextOf, SlotOrderOf};
+// C calls on the bytes of a sheet: least interval, plan text, slot order, page. They read the sheet and call the
+// service; include/leastplan.h describes them.
+ghost use mathlib.Core.Path.{_≡_};
+ghost use Rattle.text.specs.Line.{refused};
+ghost use Rattle.host.specs.Calls.{LeastOf, PlanTextOf, SlotOrderOf, PageFor};
 use plan::IntervalAnswer;
 use text::Written;
 
@@ -27,6 +29,13 @@ pub extern "C" fn leastplan_least_interval(sheet: &[u8]) -> IntervalAnswer
     schedule::least_interval(numbers)
 }
 
+// A refusal of the bytes: nothing is written.
+fn unwritten(answer: usize) -> Written
+    ensures { λ r. ⌜ r ≡ refused answer ⌝ }
+{
+    Written { answer, count: 0 }
+}
+
 #[no_mangle]
 pub extern "C" fn leastplan_plan_text(sheet: &[u8], interval: usize, out: &mut [u8]) -> Written
     ensures { λ r. ⌜ PlanTextOf (now (sheet .entry)) interval (now (out .entry)) r (now (out .exit)) ⌝ }
@@ -34,7 +43,7 @@ pub extern "C" fn leastplan_plan_text(sheet: &[u8], interval: usize, out: &mut [
     let read = reader::read(sheet);
     let answer = read.answer;
     if answer != 0 {
-        return Written { answer, count: 0 };
+        return unwritten(answer);
     }
     let numbers = read.sheet;
     let text = report::plan_text(numbers, interval, out);
@@ -59,4 +68,23 @@ pub extern "C" fn leastplan_slot_order(sheet: &[u8], interval: usize, pair: usiz
         answer: found.answer,
         order: found.order,
     }
+}
+
+#[no_mangle]
+pub extern "C" fn leastplan_page(
+    sheet: &[u8],
+    interval: usize,
+    starts: &[usize],
+    instances: &[usize],
+    out: &mut [u8],
+) -> Written
+    ensures { λ r. ⌜ PageFor (now (sheet .entry)) interval (now (starts .entry)) (now (instances .entry)) (now (out .entry)) (record { written = r; buffer = now (out .exit) }) ⌝ }
+{
+    let read = reader::read(sheet);
+    let answer = read.answer;
+    if answer != 0 {
+        return unwritten(answer);
+    }
+    let numbers = read.sheet;
+    page::page(numbers, interval, starts, instances, out)
 }

@@ -38,7 +38,7 @@ module _ {s s' : Sheet} (e : SameSheet s s') (ok : InRange s) {L : ℕ} {table :
         overlap = overlap-same (turn e) (range-same e ok) L op start j (placementAt table j .start) n m (t .overlap);
       })
 
-  consistent-same : Consistent s L table → Consistent s' L table
+  pub consistent-same : Consistent s L table → Consistent s' L table
   unfolding Within
   consistent-same c = record {
     entries = λ i. let a = c .entries i in record {

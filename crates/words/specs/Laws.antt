@@ -100,7 +100,7 @@ module _ (r : Row) (rs : List Row) (name : List ℕ) (g : Given) {b : Bool} (tel
       rw q
 
   -- the row of that name
-  pub found : b ≡ true → requestIn (r ∷ rs) name g ≡ taking g (r .interval) (r .pair) (r .does (g .interval) (g .pair))
+  pub found : b ≡ true → requestIn (r ∷ rs) name g ≡ taking g (r .interval) (r .pair) (r .asks (g .interval) (g .pair))
   unfolding requestIn
   found f =
       let q : same name (r .name) ≡ true = subst (λ (x : List ℕ). same name x ≡ true) (tells .0 f) (same-refl name) in

@@ -6,18 +6,18 @@ use mathlib.Core.List.{List, [], _∷_}
 use lib.Dec.{eqb}
 use Rattle.words.specs.declared.Given.{Given}
 use Rattle.words.specs.declared.Command.{Command}
-use Rattle.words.specs.declared.Command.the-variants.{Bounds, Starts, Separations, Plan, Order, Check, Write}
+use Rattle.words.specs.declared.Command.the-variants.{Bounds, Starts, Separations, Plan, Page, Order, Check, Write}
 use Rattle.words.specs.declared.Asked.{Asked}
-use Rattle.words.specs.declared.Asked.the-variants.{Do, Unknown, Strange, Missing, Twice, Foreign}
+use Rattle.words.specs.declared.Asked.the-variants.{Do, PageOfPlan, Unknown, Strange, Missing, Twice, Foreign}
 
 -- ---- the table
 
--- a command: its name, whether it takes an interval and a pair, and what is done with those
+-- a command: its name, whether it takes an interval and a pair, and what is asked for with those
 pub record Row : Type 0 where
   pub name : List ℕ
   pub interval : Bool
   pub pair : Bool
-  pub does : ℕ → ℕ → Command
+  pub asks : ℕ → ℕ → Asked
 
 -- `bounds`
 abbrev pub boundsRow : Row
@@ -25,7 +25,7 @@ boundsRow = record {
   name = 98 ∷ 111 ∷ 117 ∷ 110 ∷ 100 ∷ 115 ∷ [];
   interval = false;
   pair = false;
-  does = λ L P. Bounds;
+  asks = λ L P. Do Bounds;
 }
 
 -- `check`
@@ -34,7 +34,7 @@ checkRow = record {
   name = 99 ∷ 104 ∷ 101 ∷ 99 ∷ 107 ∷ [];
   interval = false;
   pair = false;
-  does = λ L P. Check;
+  asks = λ L P. Do Check;
 }
 
 -- `write`
@@ -43,7 +43,7 @@ writeRow = record {
   name = 119 ∷ 114 ∷ 105 ∷ 116 ∷ 101 ∷ [];
   interval = false;
   pair = false;
-  does = λ L P. Write;
+  asks = λ L P. Do Write;
 }
 
 -- `starts interval=L`
@@ -52,7 +52,7 @@ startsRow = record {
   name = 115 ∷ 116 ∷ 97 ∷ 114 ∷ 116 ∷ 115 ∷ [];
   interval = true;
   pair = false;
-  does = λ L P. Starts L;
+  asks = λ L P. Do (Starts L);
 }
 
 -- `separations interval=L`
@@ -61,7 +61,7 @@ separationsRow = record {
   name = 115 ∷ 101 ∷ 112 ∷ 97 ∷ 114 ∷ 97 ∷ 116 ∷ 105 ∷ 111 ∷ 110 ∷ 115 ∷ [];
   interval = true;
   pair = false;
-  does = λ L P. Separations L;
+  asks = λ L P. Do (Separations L);
 }
 
 -- `plan interval=L`
@@ -70,7 +70,25 @@ planRow = record {
   name = 112 ∷ 108 ∷ 97 ∷ 110 ∷ [];
   interval = true;
   pair = false;
-  does = λ L P. Plan L;
+  asks = λ L P. Do (Plan L);
+}
+
+-- `page interval=L`
+abbrev pub pageRow : Row
+pageRow = record {
+  name = 112 ∷ 97 ∷ 103 ∷ 101 ∷ [];
+  interval = true;
+  pair = false;
+  asks = λ L P. Do (Page L);
+}
+
+-- `page_of_plan interval=L`
+abbrev pub pageOfPlanRow : Row
+pageOfPlanRow = record {
+  name = 112 ∷ 97 ∷ 103 ∷ 101 ∷ 95 ∷ 111 ∷ 102 ∷ 95 ∷ 112 ∷ 108 ∷ 97 ∷ 110 ∷ [];
+  interval = true;
+  pair = false;
+  asks = λ L P. PageOfPlan L;
 }
 
 -- `order interval=L pair=P`
@@ -79,12 +97,12 @@ orderRow = record {
   name = 111 ∷ 114 ∷ 100 ∷ 101 ∷ 114 ∷ [];
   interval = true;
   pair = true;
-  does = λ L P. Order L P;
+  asks = λ L P. Do (Order L P);
 }
 
 -- the commands at an interval
 abbrev pub intervalRows : List Row
-intervalRows = startsRow ∷ separationsRow ∷ planRow ∷ orderRow ∷ []
+intervalRows = startsRow ∷ separationsRow ∷ planRow ∷ pageRow ∷ pageOfPlanRow ∷ orderRow ∷ []
 
 -- the commands
 abbrev pub rows : List Row
@@ -106,11 +124,11 @@ counted argument times taken then =
     (cond (eqb times 0) (Missing argument) (cond (eqb times 1) then (Twice argument)))
     (cond (eqb times 0) then (Foreign argument))
 
--- the command, where the arguments are those that it takes: a word that is no argument is told first, then what is
--- wrong with the interval, then with the pair
-unfoldable pub taking : Given → Bool → Bool → Command → Asked
-taking g takesInterval takesPair command =
-    cond (g .strange) Strange (counted interval (g .intervals) takesInterval (counted pair (g .pairs) takesPair (Do command)))
+-- what is then asked for, where the arguments are those that the command takes: a word that is no argument is told
+-- first, then what is wrong with the interval, then with the pair
+unfoldable pub taking : Given → Bool → Bool → Asked → Asked
+taking g takesInterval takesPair then =
+    cond (g .strange) Strange (counted interval (g .intervals) takesInterval (counted pair (g .pairs) takesPair then))
 
 -- ---- the whole
 
@@ -124,7 +142,7 @@ same (x ∷ xs) (y ∷ ys) = cond (eqb x y) (same xs ys) false
 -- what is asked for by the row of that name
 unfoldable pub requestIn : List Row → List ℕ → Given → Asked
 requestIn [] name g = Unknown
-requestIn (r ∷ rs) name g = cond (same name (r .name)) (taking g (r .interval) (r .pair) (r .does (g .interval) (g .pair))) (requestIn rs name g)
+requestIn (r ∷ rs) name g = cond (same name (r .name)) (taking g (r .interval) (r .pair) (r .asks (g .interval) (g .pair))) (requestIn rs name g)
 
 -- what is asked for by the name of a command and its arguments
 abbrev pub requestOf : List ℕ → Given → Asked

@@ -11,6 +11,7 @@ pub enum Command {
     Starts(usize),
     Separations(usize),
     Plan(usize),
+    Page(usize),
     Order(usize, usize),
     Check,
     Write,
@@ -21,10 +22,12 @@ pub const INTERVAL: usize = 0;
 
 pub const PAIR: usize = 1;
 
-// What the words ask for: a command to be done, or what is wrong with them: no such command, a word that is no
-// argument, an argument that is missing, given more than once, or not taken by this command.
+// What the words ask for: a command to be done, or the page at an interval of a plan that comes besides; or what is
+// wrong with them: no such command, a word that is no argument, an argument that is missing, given more than once, or
+// not taken by this command.
 pub enum Asked {
     Do(Command),
+    PageOfPlan(usize),
     Unknown,
     Strange,
     Missing(usize),
@@ -120,9 +123,9 @@ fn counted(argument: usize, times: usize, taken: bool, then: Asked) -> Asked
     then
 }
 
-// The command, where the arguments are those that it takes.
-fn taking(given: Given, interval: bool, pair: bool, command: Command) -> Asked
-    ensures { λ r. ⌜ r ≡ taking given interval pair command ⌝ }
+// What is then asked for, where the arguments are those that the command takes.
+fn taking(given: Given, interval: bool, pair: bool, then: Asked) -> Asked
+    ensures { λ r. ⌜ r ≡ taking given interval pair then ⌝ }
 {
     if given.strange {
         return Asked::Strange;
@@ -131,7 +134,7 @@ fn taking(given: Given, interval: bool, pair: bool, command: Command) -> Asked
         INTERVAL,
         given.intervals,
         interval,
-        counted(PAIR, given.pairs, pair, Asked::Do(command)),
+        counted(PAIR, given.pairs, pair, then),
     )
 }
 
@@ -141,16 +144,32 @@ fn at_interval(name: &[u8], given: Given) -> Asked
 {
     let interval = given.interval;
     if check::same(name, b"starts") {
-        return taking(given, true, false, Command::Starts(interval));
+        return taking(given, true, false, Asked::Do(Command::Starts(interval)));
     }
     if check::same(name, b"separations") {
-        return taking(given, true, false, Command::Separations(interval));
+        return taking(
+            given,
+            true,
+            false,
+            Asked::Do(Command::Separations(interval)),
+        );
     }
     if check::same(name, b"plan") {
-        return taking(given, true, false, Command::Plan(interval));
+        return taking(given, true, false, Asked::Do(Command::Plan(interval)));
+    }
+    if check::same(name, b"page") {
+        return taking(given, true, false, Asked::Do(Command::Page(interval)));
+    }
+    if check::same(name, b"page_of_plan") {
+        return taking(given, true, false, Asked::PageOfPlan(interval));
     }
     if check::same(name, b"order") {
-        return taking(given, true, true, Command::Order(interval, given.pair));
+        return taking(
+            given,
+            true,
+            true,
+            Asked::Do(Command::Order(interval, given.pair)),
+        );
     }
     Asked::Unknown
 }
@@ -161,13 +180,13 @@ pub fn request(name: &[u8], given: Given) -> Asked
     ensures { λ r. ⌜ r ≡ requestOf (now (name .entry)) given ⌝ }
 {
     if check::same(name, b"bounds") {
-        return taking(given, false, false, Command::Bounds);
+        return taking(given, false, false, Asked::Do(Command::Bounds));
     }
     if check::same(name, b"check") {
-        return taking(given, false, false, Command::Check);
+        return taking(given, false, false, Asked::Do(Command::Check));
     }
     if check::same(name, b"write") {
-        return taking(given, false, false, Command::Write);
+        return taking(given, false, false, Asked::Do(Command::Write));
     }
     at_interval(name, given)
 }

@@ -41,6 +41,20 @@ past-4 : (c : tie.Else4) → Past 4 (start-4 c)
 unfolding Past
 past-4 c = past-3 (c .before .before .before) ∙ passed _ _ _ _ (c .before .same4 .ensures) (c .if4 .left)
 
+abbrev start-5 : tie.Else5 → tie.Start
+start-5 c = start-4 (c .before .before .before)
+
+past-5 : (c : tie.Else5) → Past 5 (start-5 c)
+unfolding Past
+past-5 c = past-4 (c .before .before .before) ∙ passed _ _ _ _ (c .before .same5 .ensures) (c .if5 .left)
+
+abbrev start-6 : tie.Else6 → tie.Start
+start-6 c = start-5 (c .before .before .before)
+
+past-6 : (c : tie.Else6) → Past 6 (start-6 c)
+unfolding Past
+past-6 c = past-5 (c .before .before .before) ∙ passed _ _ _ _ (c .before .same6 .ensures) (c .if6 .left)
+
 slice-aggregate-same : tie.Need-slice-aggregate-same
 slice-aggregate-same c = search needs
 
@@ -92,9 +106,35 @@ returns-4 : tie.Need-returns-4
 unfolding Past
 returns-4 c = c .taking4 .ensures ∙ sym (past-3 (c .before .before .before .before) ∙ found _ _ _ _ (c .before .before .same4 .ensures) (c .before .if4 .taken))
 
+slice-aggregate-same-5 : tie.Need-slice-aggregate-same-5
+slice-aggregate-same-5 c = search needs
+
+same-requires-5 : tie.Need-same-requires-5
+same-requires-5 c κs = search needs
+
+taking-requires-5 : tie.Need-taking-requires-5
+taking-requires-5 c κs = search needs
+
 returns-5 : tie.Need-returns-5
+unfolding Past
+returns-5 c = c .taking5 .ensures ∙ sym (past-4 (c .before .before .before .before) ∙ found _ _ _ _ (c .before .before .same5 .ensures) (c .before .if5 .taken))
+
+slice-aggregate-same-6 : tie.Need-slice-aggregate-same-6
+slice-aggregate-same-6 c = search needs
+
+same-requires-6 : tie.Need-same-requires-6
+same-requires-6 c κs = search needs
+
+taking-requires-6 : tie.Need-taking-requires-6
+taking-requires-6 c κs = search needs
+
+returns-6 : tie.Need-returns-6
+unfolding Past
+returns-6 c = c .taking6 .ensures ∙ sym (past-5 (c .before .before .before .before) ∙ found _ _ _ _ (c .before .before .same6 .ensures) (c .before .if6 .taken))
+
+returns-7 : tie.Need-returns-7
 unfolding Past requestIn
-returns-5 c = sym (past-4 c)
+returns-7 c = sym (past-6 c)
 
 pub at-interval-spec : {M : Type 1} → statement M
 at-interval-spec =
@@ -116,4 +156,12 @@ at-interval-spec =
     same-requires-4
     taking-requires-4
     returns-4
-    returns-5)
+    slice-aggregate-same-5
+    same-requires-5
+    taking-requires-5
+    returns-5
+    slice-aggregate-same-6
+    same-requires-6
+    taking-requires-6
+    returns-6
+    returns-7)

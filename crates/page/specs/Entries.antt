@@ -1,0 +1,75 @@
+-- Entries past R, N or E are no part of a sheet: sheets that differ only there get the same page. Assumes nothing.
+use Prim.Native.Nat.{ℕ, zero, suc, _≤_, _<_}
+use native.Mathlib.Omega.{arith}
+use mathlib.Core.Path.{_≡_, refl, sym, ap, ap₂, subst, _∙_}
+use mathlib.Core.Bool.{Bool, cond}
+use mathlib.Core.List.{List, []}
+use lib.ListN.{length}
+use Rattle.sheet.specs.declared.Sheet.{Sheet}
+use Rattle.sheet.specs.declared.Operation.{Operation}
+use Rattle.sheet.specs.declared.ResourceType.{ResourceType}
+use Rattle.sheet.specs.Sheet.{InRange, Interval, typeAt, opAt}
+use Rattle.sheet.specs.Questions.{Asked, at-no, at-yes, Is, Accepted}
+use Rattle.sheet.specs.Entries.{SameSheet, turn, range-same, interval-same, at-interval-same}
+use Rattle.placing.specs.declared.Table.{Table}
+use Rattle.placing.specs.Table.{placementAt, Consistent}
+use Rattle.placing.specs.SameEntries.{consistent-same}
+use Rattle.page_text.specs.Columns.{upTo}
+use Rattle.page_text.specs.Page.{typeLines, uses, lastOf, userOf, pageText, pageLength}
+use Rattle.page_text.specs.Joining.{up-same}
+use Rattle.page_text.specs.Widths.{linesTo, page-lines, page-long}
+use Rattle.page.specs.Answers.{fullTable, planPage, Fits, FullTable, PageAnswer, pageRefused, printed, PageAt}
+
+last-same : (n : ℕ) (f g : ℕ → Bool) → ((i : ℕ) → i < n → f i ≡ g i) → lastOf n f ≡ lastOf n g
+unfolding lastOf
+last-same zero f g h = refl
+last-same (suc n) f g h = ap₂ (λ (b : Bool) (k : ℕ). cond b (suc n) k) (h n (omega arith)) (last-same n f g (λ i l. h i (omega arith)))
+
+module _ {s s' : Sheet} (e : SameSheet s s') (L : ℕ) where
+  user-same : (table : Table) (r slot′ a : ℕ) → userOf s L table r slot′ a ≡ userOf s' L table r slot′ a
+  user-same table r slot′ a =
+      last-same (s .«op_count») (λ i. uses L (opAt s i .resource) (placementAt table i) r slot′ a) (λ i. uses L (opAt s' i .resource) (placementAt table i) r slot′ a)
+      (λ i h. ap (λ (o : Operation). uses L (o .resource) (placementAt table i) r slot′ a) (e .eachOp i h))
+      ∙ ap (λ (n : ℕ). lastOf n (λ i. uses L (opAt s' i .resource) (placementAt table i) r slot′ a)) (e .opCount)
+
+  users-same : (table : Table) (r : ℕ) → userOf s L table r ≡ userOf s' L table r
+  users-same table r = λ i slot′ a. user-same table r slot′ a i
+
+  text-same : (table : Table) → pageText s L table ≡ pageText s' L table
+  text-same table =
+      page-lines s L table
+      ∙ up-same (s .«type_count») (λ r. typeLines L (typeAt s r .instances) (userOf s L table r) r) (λ r. typeLines L (typeAt s' r .instances) (userOf s' L table r) r)
+      (λ r h. ap₂ (λ (A : ℕ) (user : ℕ → ℕ → ℕ). typeLines L A user r) (ap (λ (t : ResourceType). t .instances) (e .eachType r h)) (users-same table r))
+      ∙ ap (linesTo s' L table) (e .typeCount) ∙ sym (page-lines s' L table)
+
+  plan-page-same : (ts us : List ℕ) → planPage s L ts us ≡ planPage s' L ts us
+  plan-page-same ts us = ap (λ (n : ℕ). pageText s L (fullTable n ts us)) (e .opCount) ∙ text-same (fullTable (s' .«op_count») ts us)
+
+  length-same : Accepted s L → Accepted s' L → pageLength s L ≡ pageLength s' L
+  length-same y z = sym (page-long y (fullTable 0 [] [])) ∙ ap length (text-same (fullTable 0 [] [])) ∙ page-long z (fullTable 0 [] [])
+
+  full-table-same : InRange s → {ts us : List ℕ} → FullTable s L ts us → FullTable s' L ts us
+  full-table-same ok {ts} {us} f = record {
+    starts = f .starts ∙ e .opCount;
+    instances = f .instances ∙ e .opCount;
+    consistent = subst (λ (n : ℕ). Consistent s' L (fullTable n ts us)) (e .opCount) (consistent-same e ok (f .consistent));
+  }
+
+pub page-same : {s s' : Sheet} → SameSheet s s' → {L : ℕ} {ts us old : List ℕ} {a : PageAnswer} → PageAt s L ts us old a → PageAt s' L ts us old a
+page-same {s} {s'} e {L} {ts} {us} {old} {a} = at-interval-same e (pageRefused old) at
+  where
+    full : InRange s → Asked (FullTable s L ts us) (Is (pageRefused old 10)) (Is (printed (planPage s L ts us) old)) a
+        → Asked (FullTable s' L ts us) (Is (pageRefused old 10)) (Is (printed (planPage s' L ts us) old)) a
+    full ok (at-no n p) = at-no (λ f. n (full-table-same (turn e) L (range-same e ok) f)) p
+    full ok (at-yes f p) = at-yes (full-table-same e L ok f) (p ∙ ap (λ (text : List ℕ). printed text old) (plan-page-same e L ts us))
+
+    at : InRange s → Interval s L → Asked (Fits s L old) (Is (pageRefused old 9)) (Asked (FullTable s L ts us) (Is (pageRefused old 10)) (Is (printed (planPage s L ts us) old))) a
+        → Asked (Fits s' L old) (Is (pageRefused old 9)) (Asked (FullTable s' L ts us) (Is (pageRefused old 10)) (Is (printed (planPage s' L ts us) old))) a
+    at ok i q =
+        let l = length-same e L (record { sheet = ok; interval = i }) (record { sheet = range-same e ok; interval = interval-same e i }) in
+        by l q
+      where
+        by : pageLength s L ≡ pageLength s' L → Asked (Fits s L old) (Is (pageRefused old 9)) (Asked (FullTable s L ts us) (Is (pageRefused old 10)) (Is (printed (planPage s L ts us) old))) a
+            → Asked (Fits s' L old) (Is (pageRefused old 9)) (Asked (FullTable s' L ts us) (Is (pageRefused old 10)) (Is (printed (planPage s' L ts us) old))) a
+        by l (at-no n p) = at-no (λ f. n (omega arith)) p
+        by l (at-yes f q) = at-yes (omega arith) (full ok q)

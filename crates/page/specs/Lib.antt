@@ -1,0 +1,10 @@
+-- ---- definitions to believe
+pub mod Answers
+-- ---- laws
+pub mod Tables
+pub mod Making
+pub mod Unique
+pub mod OfPlans
+pub mod Alike
+pub mod Paper
+pub mod Entries

@@ -1,0 +1,9 @@
+-- ---- definitions to believe
+pub mod Columns
+pub mod Page
+-- ---- laws
+pub mod Digits
+pub mod Pasting
+pub mod Joining
+pub mod Users
+pub mod Widths
