@@ -1,0 +1,5 @@
+-- ---- definitions to believe
+pub mod Lines
+-- ---- laws
+pub mod Numbers
+pub mod Steps
