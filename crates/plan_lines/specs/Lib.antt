@@ -3,3 +3,4 @@ pub mod Lines
 -- ---- laws
 pub mod Numbers
 pub mod Steps
+pub mod Unique
