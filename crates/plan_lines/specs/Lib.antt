@@ -1,6 +1,8 @@
 -- ---- definitions to believe
 pub mod Lines
+pub mod Text
 -- ---- laws
 pub mod Numbers
 pub mod Steps
 pub mod Unique
+pub mod RoundTrip
