@@ -9,6 +9,7 @@ use lib.Seq.{take-at}
 use Rattle.text.specs.declared.Written.{Written}
 use Rattle.text.specs.Text.{over, bufferOf}
 use Rattle.text.specs.Line.{writtenOf}
+use Rattle.text.specs.Writing.{length-over}
 use Rattle.text.specs.Lines.{linesText}
 use Rattle.text.specs.Sizes.{threeDigits}
 use Rattle.sheet.specs.declared.Sheet.{Sheet}
@@ -28,6 +29,9 @@ use Rattle.commands.specs.Answers.{page-given}
 
 abbrev number : PageAnswer → ℕ
 number a = a .written .answer
+
+abbrev Within : PageAnswer → Type 0
+Within a = a .written .count ≤ length (a .buffer)
 
 module _ {s : Sheet} {L : ℕ} (ok : InRange s) {ts us old : List ℕ} (enough : longestPage ≤ length old) {a : PageAnswer} where
   -- a refusal is 4 or 10
@@ -67,16 +71,17 @@ module _ {s : Sheet} {L : ℕ} (ok : InRange s) {ts us old : List ℕ} (enough :
         buffer = f ∙ ap (λ (t : List ℕ). bufferOf t out) (q .1);
       }
 
-  -- the page lies within the buffer
-  pub page-within : PageAt s L ts us old a → a .written .count ≤ longestPage
+  -- the bytes counted are bytes of the buffer
+  pub page-within : PageAt s L ts us old a → a .written .count ≤ length (a .buffer)
   page-within (at-no n _) = absurd (n ok)
-  page-within (at-yes r (at-no n e)) = let q = ap (λ (x : PageAnswer). x .written .count) e in omega arith
-  page-within (at-yes r (at-yes i (at-no n e))) = let q = ap (λ (x : PageAnswer). x .written .count) e in omega arith
-  page-within (at-yes r (at-yes i (at-yes f (at-no n e)))) = let q = ap (λ (x : PageAnswer). x .written .count) e in omega arith
+  page-within (at-yes r (at-no n e)) = subst Within (sym e) (omega arith)
+  page-within (at-yes r (at-yes i (at-no n e))) = subst Within (sym e) (omega arith)
+  page-within (at-yes r (at-yes i (at-yes f (at-no n e)))) = subst Within (sym e) (omega arith)
   page-within (at-yes r (at-yes i (at-yes f (at-yes t e)))) =
       let y : Accepted s L = record { sheet = r; interval = i } in
-      let q = ap (λ (x : PageAnswer). x .written .count) e in
-      omega (arith, page-long y (fullTable (s .«op_count») ts us), page-most y)
+      let text = planPage s L ts us in
+      let h = page-long y (fullTable (s .«op_count») ts us) in
+      subst Within (sym e) (omega (arith, length-over text old (omega arith)))
 
 -- the page of the first plan is the page of its starts and instances
 pub first-served : {s : Sheet} {L : ℕ} {a : PlanAnswer} → PlanAt s L a → a .answer ≡ 0

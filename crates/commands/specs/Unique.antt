@@ -86,8 +86,8 @@ prints-one _ _ (prints.refused n) (prints.read z _) = absurd (n z)
 prints-one _ _ (prints.read z _) (prints.refused n) = absurd (n z)
 prints-one {bytes} {c} x y (prints.read z p) (prints.read _ q) = serves-one (read-in-range bytes z) c x y p q
 
-page-one : {bytes ts us : List ℕ} {L : ℕ} → One (PrintsPage bytes L ts us)
-page-one = asked-one (is-one _) (at-interval-one refusalText (asked-one (is-one (refusalText 10)) (is-one _)))
+page-one : (bytes : List ℕ) {L : ℕ} {ts us : List ℕ} → One (PrintsPage bytes L ts us)
+page-one bytes = asked-one (is-one _) (at-interval-one refusalText (asked-one (is-one (refusalText 10)) (is-one _)))
 
 put-one : {P : List ℕ → Type 0} {old : List ℕ} {r r′ : Written} {new new′ : List ℕ} → One P → Put P old r new → Put P old r′ new′ → (r ≡ r′) × (new ≡ new′)
 put-one {old = old} one p q =
@@ -100,9 +100,9 @@ put-one {old = old} one p q =
 pub once : {bytes old : List ℕ} {c : Command} {r r′ : Written} {new new′ : List ℕ} → Answered c bytes old r new → Answered c bytes old r′ new′ → (r ≡ r′) × (new ≡ new′)
 once = put-one prints-one
 
-pub page-once : {bytes ts us old : List ℕ} {L : ℕ} {r r′ : Written} {new new′ : List ℕ}
+pub page-once : (bytes : List ℕ) {L : ℕ} {ts us old : List ℕ} {r r′ : Written} {new new′ : List ℕ}
     → AnsweredPage bytes L ts us old r new → AnsweredPage bytes L ts us old r′ new′ → (r ≡ r′) × (new ≡ new′)
-page-once = put-one page-one
+page-once bytes = put-one (page-one bytes)
 
 -- what `write` prints of an accepted sheet are its own bytes
 pub own-bytes : {bytes text : List ℕ} → readOf bytes .answer ≡ 0 → Prints bytes Write text → text ≡ bytes

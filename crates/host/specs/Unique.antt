@@ -35,5 +35,5 @@ slot-order-of-unique (served-order z a) (unread-order m) = absurd (m z)
 slot-order-of-unique (served-order z a) (served-order y b) = ap orderAnswer (slot-order-unique _ _ a b)
 
 -- page: the answer and the buffer
-pub page-for-unique : {bytes ts us old : List ℕ} {L : ℕ} → One (PageFor bytes L ts us old)
-page-for-unique = asked-one (is-one _) page-unique
+pub page-for-unique : (bytes : List ℕ) {L : ℕ} {ts us old : List ℕ} → One (PageFor bytes L ts us old)
+page-for-unique bytes = asked-one (is-one _) page-unique

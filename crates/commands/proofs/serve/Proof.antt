@@ -1,5 +1,5 @@
 -- `commands::serve` meets its contract, command by command.
--- From what the services' lines, `put`, `plan` and `write` ensure.
+-- From what the services' lines, `put`, `plan`, `first` and `write` ensure.
 use mathlib.Core.Path.{_≡_, sym, subst}
 use mathlib.Core.List.{List}
 use Prim.Native.Nat.{ℕ}
@@ -53,6 +53,12 @@ plan-requires c κs = search needs
 
 enum-known-command-4 : tie.Need-enum-known-command-4
 enum-known-command-4 c = search needs
+
+first-requires : tie.Need-first-requires
+first-requires c κs = search needs
+
+enum-known-command-5 : tie.Need-enum-known-command-5
+enum-known-command-5 c = search needs
 
 order-requires : tie.Need-order-requires
 order-requires c κs = search needs
@@ -115,9 +121,8 @@ same-length-5 c = search needs
 
 returns-5 : tie.Need-returns-5
 returns-5 c =
-    let b = c .before .before .before in
-    let w = c .before .before .put4 .ensures in
-    of (b .before .before .before .command4 .given .1) (put (b .order .ensures) (w .0) (w .1))
+    let b = c .before .before in
+    of (b .before .before .before .command4 .given .1) (b .first .ensures)
 
 same-length-6 : tie.Need-same-length-6
 same-length-6 c = search needs
@@ -125,14 +130,23 @@ same-length-6 c = search needs
 returns-6 : tie.Need-returns-6
 returns-6 c =
     let b = c .before .before .before in
-    let w = c .before .before .put5 .ensures in
-    of (b .before .before .enum-told2 .given .1) (put (lists (b .alone .ensures) check) (w .0) (w .1))
+    let w = c .before .before .put4 .ensures in
+    of (b .before .before .before .command5 .given .1) (put (b .order .ensures) (w .0) (w .1))
 
 same-length-7 : tie.Need-same-length-7
 same-length-7 c = search needs
 
 returns-7 : tie.Need-returns-7
 returns-7 c =
+    let b = c .before .before .before in
+    let w = c .before .before .put5 .ensures in
+    of (b .before .before .enum-told2 .given .1) (put (lists (b .alone .ensures) check) (w .0) (w .1))
+
+same-length-8 : tie.Need-same-length-8
+same-length-8 c = search needs
+
+returns-8 : tie.Need-returns-8
+returns-8 c =
     let b = c .before .before in
     let s = b .before .before .before .before .before in
     of (b .before .before .enum-told3 .given .1) (write-put (s .pre .0) (text-short (s .args .sheet) (s .pre .1) (s .pre .0)) (b .write .ensures))
@@ -153,6 +167,8 @@ serve-spec =
     enum-known-command-3
     plan-requires
     enum-known-command-4
+    first-requires
+    enum-known-command-5
     order-requires
     put-requires-4
     enum-told-2
@@ -173,4 +189,6 @@ serve-spec =
     same-length-6
     returns-6
     same-length-7
-    returns-7)
+    returns-7
+    same-length-8
+    returns-8)

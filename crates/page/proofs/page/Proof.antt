@@ -79,10 +79,10 @@ returns-6 c =
     let t = c .before .before .before .before .before .before .full-table .ensures in
     let p = c .before .before .put-page .ensures in
     let full : FullTable (s .sheet) (s .interval) (s .starts .now) (s .instances .now) = record {
-          starts = c .before .before .before .before .before .before .before .before .if3 .left;
-          instances = c .before .before .before .before .before .before .before .if4 .left;
-          consistent = subst (Consistent (s .sheet) (s .interval)) t (passed (c .before .before .before .before .before .consistent .ensures) (c .before .before .before .before .if5 .left));
-        } in
+      starts = c .before .before .before .before .before .before .before .before .if3 .left;
+      instances = c .before .before .before .before .before .before .before .if4 .left;
+      consistent = subst (Consistent (s .sheet) (s .interval)) t (passed (c .before .before .before .before .before .consistent .ensures) (c .before .before .before .before .if5 .left));
+    } in
     page-made y (omega (arith, c .before .before .before .before .before .before .before .before .before .before .page-length .ensures, c .before .before .before .before .before .before .before .before .before .if2 .left)) full
     (p .0 ∙ ap (λ (x : Table). length (pageText (s .sheet) (s .interval) x)) t) (p .1 ∙ ap (λ (x : Table). over (pageText (s .sheet) (s .interval) x) (s .out .now)) t)
 
