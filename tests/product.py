@@ -7,6 +7,7 @@ import os
 import shutil
 import subprocess
 import sys
+import tempfile
 import time
 
 ROOT = os.path.realpath(os.path.join(os.path.dirname(os.path.abspath(__file__)), ".."))
@@ -38,12 +39,24 @@ def program_words(name):
     return [emulator] + words if os.path.exists(emulator) else words
 
 
-def run(name, data, *words):
-    """What the program writes for this standard input and these words; a crash raises."""
-    done = subprocess.run([*program_words(name), *words], input=data, stdout=subprocess.PIPE, timeout=600)
+def outcome(name, data, *words, plan=None):
+    """(standard output, standard error) of the program for this standard input and these words, with a plan's lines on
+    descriptor 3, which is closed without them; a crash raises."""
+    command = [*program_words(name), *words]
+    with tempfile.NamedTemporaryFile() as lines:
+        if plan is not None:
+            lines.write(plan)
+            lines.flush()
+            command = ["sh", "-c", 'exec "$@" 3<"$0"', lines.name, *command]
+        done = subprocess.run(command, input=data, stdout=subprocess.PIPE, stderr=subprocess.PIPE, timeout=600)
     if done.returncode:
-        raise RuntimeError("%s ended with status %d" % (name, done.returncode))
-    return done.stdout
+        raise RuntimeError("%s ended with status %d: %r" % (name, done.returncode, done.stderr))
+    return done.stdout, done.stderr
+
+
+def run(name, data, *words, plan=None):
+    """The standard output alone."""
+    return outcome(name, data, *words, plan=plan)[0]
 
 
 def last_change():

@@ -1,5 +1,5 @@
 #!/usr/bin/env python3
-"""Loop sheets and interval plans as document 01 and slips 1 and 2 of 02 word them, by plain enumeration.
+"""Loop sheets and interval plans as document 01 and slips 1 to 3 of 02 word them, by plain enumeration.
 
 Independent of the Rattle crates: nothing here is taken from their code, their algorithms or their
 outputs. Sheets are read with a regular expression for each kind of line; plans, instances and closed
@@ -11,9 +11,11 @@ is itself shorter, and any other can be cut out and the sum is no smaller), and 
 made a bad closed one is not continued. Sums over walks come from a table by length and ends, so all
 but plans can be had of large sheets too; plans are slow, and for small sheets only.
 
-As a program:  reference.py [COMMAND [name=number ..]] < SHEET   prints what leastplan prints.
+As a program:  reference.py [COMMAND [name=number ..]] < SHEET   prints what leastplan prints; with 3< PLAN the
+command page_of_plan too.
 """
 
+import os
 import re
 import sys
 
@@ -557,6 +559,67 @@ def place(sheet, interval, table, op, start):
     return 13, 0, table
 
 
+# ---- the page: the reservation table of a plan that is handed in
+
+MOST_INSTANCES = 8
+PAGE_LINE = 4 + 5 * MOST_INSTANCES + 1  # bytes, with the line feed
+
+
+def limited_types(sheet):
+    return [r for r, (instances, *_) in enumerate(sheet.types) if instances != 0]
+
+
+def page_length(sheet, interval):
+    """The bytes of a page, whatever the plan."""
+    return len(limited_types(sheet)) * (1 + interval) * PAGE_LINE
+
+
+def reservation_rows(sheet, interval, starts, units):
+    """For each limited type its heading and a row for each slot: what each of its instances does there."""
+    held = {(kind(sheet, i), starts[i] % interval, units[i]): i for i in range(len(sheet.ops))}
+    for r in limited_types(sheet):
+        yield "type%5d" % r + " " * 35
+        instances = sheet.types[r][0]
+        for slot in range(interval):
+            cells = ["%5s" % held.get((r, slot, unit), "-") for unit in range(instances)]
+            yield "%4d" % slot + "".join(cells) + " " * 5 * (MOST_INSTANCES - instances)
+
+
+def full_table(starts, units):
+    """The placing table in which operation i is placed at start i on instance i."""
+    placed = [(True, *at) for at in zip(starts, units)]
+    return placed + new_table()[len(placed) :]
+
+
+def page_answer(sheet, interval, starts, units, room):
+    """Questions 4, 9 and 10."""
+    if not 1 <= interval <= sheet.cap:
+        return 4
+    if room < page_length(sheet, interval):
+        return 9
+    if {len(starts), len(units)} != {len(sheet.ops)}:
+        return 10
+    return 0 if consistent(sheet, interval, full_table(starts, units)) else 10
+
+
+def page(sheet, interval, starts, units, room):
+    """(answer, text) in a buffer of this room: the text only with 0."""
+    answer = page_answer(sheet, interval, starts, units, room)
+    return answer, b"" if answer else lines_of(reservation_rows(sheet, interval, starts, units))
+
+
+PLAN_LINES = b"answer=0\ninterval=%s\n((?:at=%s,%s\n){0,%d})" % (PLAIN, PLAIN, PLAIN, MOST_OPERATIONS)
+
+
+def plan_of_lines(text):
+    """(interval, starts, instances) of a plan's lines, as `plan` prints them; None where the text is none."""
+    found = re.fullmatch(PLAN_LINES, text)
+    if not found:
+        return None
+    places = [(int(t), int(u)) for t, u in re.findall(rb"at=(.*),(.*)\n", found[2])]
+    return int(found[1]), [t for t, _ in places], [u for _, u in places]
+
+
 # ---- commands: what `leastplan COMMAND` prints for an accepted sheet; plan_of(sheet, interval) gives the plan
 
 
@@ -593,6 +656,13 @@ def order_rows(sheet, plan_of, interval, pair):
     return ["answer=%d" % answer] + loop_rows(plan[3]) + ([] if answer else ["order=%d" % value])
 
 
+def page_rows(sheet, plan_of, interval):
+    answer, starts, units, loop = plan_of(sheet, interval)
+    answer = answer or page_answer(sheet, interval, starts, units, page_length(sheet, interval))
+    refused = ["answer=%d" % answer] + loop_rows(loop)
+    return refused if answer else list(reservation_rows(sheet, interval, starts, units))
+
+
 # The arguments that a command takes, each once, in any order; and its lines.
 COMMANDS = {
     "bounds": (set(), bounds_rows),
@@ -600,35 +670,55 @@ COMMANDS = {
     "separations": ({"interval"}, separations_rows),
     "plan": ({"interval"}, plan_rows),
     "order": ({"interval", "pair"}, order_rows),
+    "page": ({"interval"}, page_rows),
     "check": (set(), lambda sheet, _: ["answer=0"]),
     "write": (set(), lambda sheet, _: sheet_rows(sheet)),
 }
 
 
+# What the script asks of the program for `page` with a plan; no command to be typed.
+PAGE_OF_PLAN = "page_of_plan"
+ALL_COMMANDS = {**COMMANDS, PAGE_OF_PLAN: COMMANDS["page"]}
+
+
 def arguments(words):
     """The numbers by name; None where the first word is no command or the others are not its arguments."""
     given = [re.fullmatch("([a-z]+)=" + PLAIN.decode(), word) for word in words[1:]]
-    if words[0] not in COMMANDS or not all(given):
+    if words[0] not in ALL_COMMANDS or not all(given):
         return None
     numbers = {found[1]: int(found[2]) for found in given}
-    return numbers if len(numbers) == len(given) and set(numbers) == COMMANDS[words[0]][0] else None
+    return numbers if len(numbers) == len(given) and set(numbers) == ALL_COMMANDS[words[0]][0] else None
 
 
-def ask(words, data, plan_of=plan_at):
-    """The whole output of a command for the bytes of its standard input; nothing where the words are wrong."""
+def plan_given(text, interval):
+    """What plan_at gives, from a plan's lines; None where they are none or of another interval."""
+    plan = plan_of_lines(text)
+    return None if plan is None or plan[0] != interval else (0, *plan[1:], [])
+
+
+def is_asked(words, plan):
+    """The words ask for something and, where they ask for the page of a plan, its lines are one at the interval."""
     numbers = arguments(words)
-    if numbers is None:
+    return numbers is not None and (words[0] != PAGE_OF_PLAN or plan_given(plan, numbers["interval"]) is not None)
+
+
+def ask(words, data, plan_of=plan_at, plan=b""):
+    """The whole output of a command for the bytes of its standard input, and of a plan's lines for the page of a plan;
+    nothing where the words or the lines are wrong."""
+    if not is_asked(words, plan):
         return b""
     answer, sheet = read_sheet(data)
     if answer:
         line = ["line=%d" % line_at_fault(data)] if words[0] == "check" else []
         return lines_of(["answer=%d" % answer] + line)
-    return lines_of(COMMANDS[words[0]][1](sheet, plan_of, **numbers))
+    given = (lambda _, interval: plan_given(plan, interval)) if words[0] == PAGE_OF_PLAN else plan_of
+    return lines_of(ALL_COMMANDS[words[0]][1](sheet, given, **arguments(words)))
 
 
 def main():
-    data = sys.stdin.buffer.read()
-    sys.stdout.buffer.write(ask(sys.argv[1:], data) if sys.argv[1:] else leastplan(data))
+    data, words = sys.stdin.buffer.read(), sys.argv[1:]
+    plan = os.read(3, SHEET_BYTES + 1) if words[:1] == [PAGE_OF_PLAN] else b""
+    sys.stdout.buffer.write(ask(words, data, plan=plan) if words else leastplan(data))
 
 
 if __name__ == "__main__":

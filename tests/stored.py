@@ -1,6 +1,6 @@
 #!/usr/bin/env python3
-"""Makes the stored inputs and outputs of leastplan, ask, test_sheet, test_plan, test_placing and test_order, and the
-page of commands among the examples.
+"""Makes the stored inputs and outputs of leastplan, ask, test_sheet, test_plan, test_placing and test_order, and among
+the examples the page of commands and a page for the cabinet door.
 
 They come from the reference. Those of leastplan and ask are case A of document 01, that of test_order has a case a
 line. The others are runs of pieces, each a line bytes=N and N bytes: a sheet, and for test_placing a sheet and a script
@@ -8,6 +8,7 @@ by turns; the outputs have a line -- before the answer to each sheet. As a progr
 """
 
 import os
+import re
 
 import orders
 import placings
@@ -72,18 +73,18 @@ def lines_of(text):
     return text.split(b"\n")[:-1]
 
 
-def with_line(k, line):
-    rows = lines_of(BASE_TEXT)
+def with_line(k, line, text=BASE_TEXT):
+    rows = lines_of(text)
     rows[k] = line
     return b"\n".join(rows) + b"\n"
 
 
-def line_kinds():
-    """The index of one line of each kind; of types, operations and edges the first and the last."""
-    keys = [row.split(b"=")[0] for row in lines_of(BASE_TEXT)]
+def line_kinds(text=BASE_TEXT):
+    """The index of one line of each kind; of a kind that has several the first and the last."""
+    keys = [row.split(b"=")[0] for row in lines_of(text)]
     for key in dict.fromkeys(keys):
         yield keys.index(key)
-        if key in (b"type", b"op", b"edge"):
+        if keys.count(key) > 1:
             yield len(keys) - 1 - keys[::-1].index(key)
 
 
@@ -142,39 +143,44 @@ NUMBERS = [b"", b"-0", b"00", b"01", b"+1", b"-1", b"--1", b"1-", b"-", b" 1", b
 NUMBERS += [b"00000", b"12345", b"\xb1", b"1\x00"]
 
 
-def malformations():
-    """At every kind of line: spellings of its numbers, counts of numbers, keys, ends of line, strange bytes."""
-    for k in line_kinds():
-        line = lines_of(BASE_TEXT)[k]
-        key, rest = line.split(b"=")
-        numbers = rest.split(b",")
-        for field in range(len(numbers)):
-            for odd in NUMBERS:
-                yield with_line(k, key + b"=" + b",".join(numbers[:field] + [odd] + numbers[field + 1 :]))
-        yield with_line(k, line + b",")
-        yield with_line(k, line + b",1")
-        yield with_line(k, key + b"=," + rest)
-        yield with_line(k, key + b"=" + b",".join(numbers[:-1]))
-        yield with_line(k, key + b"=" + b",,".join(numbers + [b"1"]))
-        yield with_line(k, key + b"==" + rest)
-        yield with_line(k, key + rest)
-        yield with_line(k, key + b" =" + rest)
-        yield with_line(k, key.upper() + b"=" + rest)
-        yield with_line(k, key[:-1] + b"=" + rest)
-        yield with_line(k, key + b"s=" + rest)
-        yield with_line(k, b"x" + line)
-        yield with_line(k, b" " + line)
-        yield with_line(k, b"")
-        yield with_line(k, line + b"\r")
-        yield with_line(k, line + b" ")
-        yield with_line(k, line + b"\n")
-        yield with_line(k, line + b"\x80")
-        yield with_line(k, bytes([line[0] | 0x80]) + line[1:])
-        rows = lines_of(BASE_TEXT)
+def malformations(text=BASE_TEXT):
+    """At every kind of line: spellings of its numbers, counts of numbers, keys, ends of line, strange bytes; the line
+    lost or doubled, and the text cut before and after it."""
+    rows = lines_of(text)
+    for k in line_kinds(text):
+        for line in malformed_lines(rows[k]):
+            yield with_line(k, line, text)
         yield b"\n".join(rows[:k] + rows[k + 1 :]) + b"\n"
         yield b"\n".join(rows[: k + 1] + rows[k:]) + b"\n"
         yield b"\n".join(rows[:k]) + (b"\n" if k else b"")
         yield b"\n".join(rows[: k + 1])
+
+
+def malformed_lines(line):
+    key, rest = line.split(b"=")
+    numbers = rest.split(b",")
+    for field in range(len(numbers)):
+        for odd in NUMBERS:
+            yield key + b"=" + b",".join(numbers[:field] + [odd] + numbers[field + 1 :])
+    yield line + b","
+    yield line + b",1"
+    yield key + b"=," + rest
+    yield key + b"=" + b",".join(numbers[:-1])
+    yield key + b"=" + b",,".join(numbers + [b"1"])
+    yield key + b"==" + rest
+    yield key + rest
+    yield key + b" =" + rest
+    yield key.upper() + b"=" + rest
+    yield key[:-1] + b"=" + rest
+    yield key + b"s=" + rest
+    yield b"x" + line
+    yield b" " + line
+    yield b""
+    yield line + b"\r"
+    yield line + b" "
+    yield line + b"\n"
+    yield line + b"\x80"
+    yield bytes([line[0] | 0x80]) + line[1:]
 
 
 def several_faults():
@@ -364,34 +370,62 @@ output, byte for byte, up to an empty line. tests/stored.py makes this page by t
 tests/check_commands types all of it again.
 """
 
-# The words of each command on the page, and the sheet among the examples.
+# The words of each command on the page, the sheet among the examples, and a plan if one is handed in.
 PAGE = [
-    ("bounds", "phase_locked_loop"),
-    ("bounds", "no_register"),
-    ("starts interval=3", "sample_deadline"),
-    ("starts interval=1", "both_bounds_low"),
-    ("starts interval=4", "horizon_too_short"),
-    ("starts interval=3", "sensor_settles"),
-    ("separations interval=5", "clarke_park"),
-    ("plan interval=4", "three_phases"),
-    ("plan interval=2", "both_bounds_low"),
-    ("plan interval=2", "frame_end"),
-    ("order interval=3 pair=0", "sample_deadline"),
-    ("check", "sample_deadline"),
-    ("check", "leading_zero"),
-    ("check", "window_reversed"),
-    ("write", "both_bounds_low"),
+    ("bounds", "phase_locked_loop.sheet"),
+    ("bounds", "no_register.sheet"),
+    ("starts interval=3", "sample_deadline.sheet"),
+    ("starts interval=1", "both_bounds_low.sheet"),
+    ("starts interval=4", "horizon_too_short.sheet"),
+    ("starts interval=3", "sensor_settles.sheet"),
+    ("separations interval=5", "clarke_park.sheet"),
+    ("plan interval=4", "three_phases.sheet"),
+    ("plan interval=2", "both_bounds_low.sheet"),
+    ("plan interval=2", "frame_end.sheet"),
+    ("order interval=3 pair=0", "sample_deadline.sheet"),
+    ("page interval=3", "three_phases.sheet"),
+    ("page interval=3", "three_phases.sheet", "three_phases.plan"),
+    ("page interval=1", "both_bounds_low.sheet"),
+    ("check", "sample_deadline.sheet"),
+    ("check", "leading_zero.sheet"),
+    ("check", "window_reversed.sheet"),
+    ("write", "both_bounds_low.sheet"),
 ]
+
+
+def example(name):
+    with open(os.path.join(ROOT, "examples", name), "rb") as source:
+        return source.read()
 
 
 def command_page():
     blocks = [PAGE_HEAD]
-    for words, name in PAGE:
-        path = "examples/%s.sheet" % name
-        with open(os.path.join(ROOT, path), "rb") as sheet:
-            output = ref.ask(words.split(), sheet.read()).decode()
-        blocks.append("$ ./leastplan %s %s\n%s" % (words, path, output))
+    for words, *names in PAGE:
+        command, *arguments = words.split()
+        sheet, *plan = map(example, names)
+        asked = [ref.PAGE_OF_PLAN if plan else command, *arguments]
+        output = ref.ask(asked, sheet, plan=b"".join(plan)).decode()
+        paths = " ".join("examples/" + name for name in names)
+        blocks.append("$ ./leastplan %s %s\n%s" % (words, paths, output))
     return "\n".join(blocks).encode()
+
+
+def stored_plans(answers):
+    """The plan at each interval of an answer of leastplan, as plan_at gives it."""
+    plans = {}
+    for block in re.findall(r"answer=(\d+)\ninterval=(\d+)\n((?:loop=.*\n|at=.*\n)*)", answers):
+        numbers = [[int(v) for v in line.split(",")] for line in re.findall(r"=(.*)\n", block[2])]
+        loop = numbers[0] if block[0] == "5" else []
+        places = [] if loop else numbers
+        plans[int(block[1])] = int(block[0]), [t for t, _ in places], [u for _, u in places], loop
+    return plans
+
+
+def door_page(name):
+    """The page of an example at its least interval, by the plan of its stored answer."""
+    _, sheet = ref.read_sheet(example(name + ".sheet"))
+    interval, (_, starts, units, _) = list(stored_plans(example(name + ".answer").decode()).items())[-1]
+    return ref.page(sheet, interval, starts, units, ref.page_length(sheet, interval))[1]
 
 
 # ---- files
@@ -408,6 +442,7 @@ def stored_files():
     yield "crates/ask/stdin", case_a
     yield "crates/ask/stdout", ref.ask(ASKED, case_a)
     yield "examples/commands.txt", command_page()
+    yield "examples/current_loop.page", door_page("current_loop")
     yield "crates/test_sheet/stdin", one_input(reads)
     yield "crates/test_sheet/stdout", marked(read_answer(p) for p in reads)
     yield "crates/test_placing/stdin", one_input(pieces)

@@ -1,0 +1,121 @@
+"""Plans that are handed in for a page, as (starts, instances): full and consistent, with each fault that question 10
+names, with any counts; and their lines, well formed and not."""
+
+import itertools
+
+import reference as ref
+import stored
+from sheets import HUGE
+
+MOST_COUNT = ref.MOST_OPERATIONS + 1  # one more than there may be
+
+
+# ---- starts and instances
+
+
+def cell_of(sheet, interval, i, start, unit):
+    """Where the page shows an operation; None where it does not, its type being unlimited."""
+    return (ref.kind(sheet, i), start % interval, unit) if ref.instances_of(sheet, i) else None
+
+
+def shown(sheet, interval, plan):
+    """All that the page shows of a plan."""
+    return [cell_of(sheet, interval, i, *at) for i, at in enumerate(zip(*plan))]
+
+
+def consistent_plan(rng, sheet, interval):
+    """Each operation at any start, on any instance that is free there; None where one finds no place."""
+    taken, places = set(), []
+    for i in range(len(sheet.ops)):
+        everywhere = [(t, u) for t in range(sheet.horizon) for u in ref.instance_range(sheet, i)]
+        free = [at for at in everywhere if cell_of(sheet, interval, i, *at) not in taken]
+        if not free:
+            return None
+        places.append(rng.choice(free))
+        taken |= {cell_of(sheet, interval, i, *places[-1])} - {None}
+    return [t for t, _ in places], [u for _, u in places]
+
+
+def with_number(numbers, i, number):
+    return numbers[:i] + [number] + numbers[i + 1 :]
+
+
+def faulty_plans(rng, sheet, interval, plan, most):
+    """A consistent plan with one fault: some start, some instance, or two rivals in one cell."""
+    starts, units = plan
+    for start in (sheet.horizon, sheet.horizon + interval, most):
+        yield with_number(starts, rng.randrange(len(starts)), start), units
+    for i in one_of_each(rng, sheet):
+        yield starts, with_number(units, i, ref.instance_range(sheet, i).stop)
+        yield starts, with_number(units, i, most)
+    yield from one_cell_twice(rng, sheet, interval, plan)
+
+
+def one_of_each(rng, sheet):
+    """An operation of a limited type and one of an unlimited type, as far as there are such."""
+    limited = [i for i in range(len(sheet.ops)) if ref.instances_of(sheet, i)]
+    others = [i for i in range(len(sheet.ops)) if i not in limited]
+    return [rng.choice(some) for some in (limited, others) if some]
+
+
+def one_cell_twice(rng, sheet, interval, plan):
+    """Some operation moves to the cell of a rival, at any start of that slot; nothing where there are no rivals."""
+    starts, units = plan
+    pairs = [(i, j) for i in range(len(starts)) for j in range(len(starts)) if ref.rivals(sheet, i, j)]
+    if pairs:
+        i, j = rng.choice(pairs)
+        start = rng.choice(range(starts[j] % interval, sheet.horizon, interval))
+        yield with_number(starts, i, start), with_number(units, i, units[j])
+
+
+def counted(numbers, count):
+    """So many of the numbers, zeros after the last."""
+    return (numbers + [0] * count)[:count]
+
+
+def near_counts(plan):
+    """One start, one instance, or one of both less or more."""
+    n = len(plan[0])
+    for a, b in ((-1, 0), (0, -1), (-1, -1), (1, 0), (0, 1), (1, 1)):
+        yield counted(plan[0], n + a), counted(plan[1], n + b)
+
+
+def every_count(plan):
+    """Each count of starts with each count of instances."""
+    for a, b in itertools.product(range(MOST_COUNT + 1), repeat=2):
+        yield counted(plan[0], a), counted(plan[1], b)
+
+
+# ---- lines
+
+
+def lines_of(interval, plan):
+    return ref.interval_lines(interval, (0, *plan, []))
+
+
+def counted_lines(interval, plan):
+    """Plans of any length, the last of them too long."""
+    for count in range(MOST_COUNT + 1):
+        yield lines_of(interval, [counted(numbers, count) for numbers in plan])
+
+
+def strange_lines(text):
+    """From a plan of an operation or more. Beside what may be wrong with the lines of any text: other answers, another
+    order of lines, what follows a plan or goes before it, lengths, and great numbers."""
+    yield from stored.malformations(text)
+    head, interval, *rest = text.splitlines(keepends=True)
+    for answer in (b"1", b"5", b"6", b"10"):
+        yield text.replace(b"answer=0", b"answer=" + answer)
+    yield b"".join([interval, head, *rest])
+    yield b"".join([head, *rest, interval])
+    for other in (b"\n", b" ", b"x", b"\0", b"at=0,0", b"loop=0\n", b"answer=7\n", b"interval=1\n", text):
+        yield text + other
+        yield other + text
+    for byte in (b"\r\n", b"\r", b"\0", b"\n\n", b" \n"):
+        yield text.replace(b"\n", byte)
+    yield text.replace(b",", b", ")
+    for length in (ref.SHEET_BYTES, ref.SHEET_BYTES + 1, 100000):
+        yield text + b"\n" * (length - len(text))
+        yield (text + b"at=0,0\n" * length)[:length]
+    for place in (b"0,%d" % HUGE, b"%d,0" % HUGE, b"0,%d" % (2**64 - 1), b"%d,0" % (2**64 - 1)):
+        yield text.replace(rest[0], b"at=" + place + b"\n")
