@@ -27,13 +27,31 @@ def consistent_plan(rng, sheet, interval):
     """Each operation at any start, on any instance that is free there; None where one finds no place."""
     taken, places = set(), []
     for i in range(len(sheet.ops)):
-        everywhere = [(t, u) for t in range(sheet.horizon) for u in ref.instance_range(sheet, i)]
+        everywhere = itertools.product(range(sheet.horizon), ref.instance_range(sheet, i))
         free = [at for at in everywhere if cell_of(sheet, interval, i, *at) not in taken]
         if not free:
             return None
         places.append(rng.choice(free))
         taken |= {cell_of(sheet, interval, i, *places[-1])} - {None}
     return [t for t, _ in places], [u for _, u in places]
+
+
+def every_consistent_plan(sheet, interval):
+    """All starts in the horizon, with all instances."""
+    n = range(len(sheet.ops))
+    for starts in itertools.product(range(sheet.horizon), repeat=len(n)):
+        for units in itertools.product(*(ref.instance_range(sheet, i) for i in n)):
+            if ref.consistent(sheet, interval, ref.full_table(starts, units)):
+                yield starts, units
+
+
+def moved(rng, sheet, interval, plan):
+    """A consistent plan with one operation elsewhere, in a free cell or at another start of its own."""
+    i = rng.randrange(len(sheet.ops))
+    others = set(shown(sheet, interval, plan)) - {cell_of(sheet, interval, i, plan[0][i], plan[1][i]), None}
+    everywhere = itertools.product(range(sheet.horizon), ref.instance_range(sheet, i))
+    start, unit = rng.choice([at for at in everywhere if cell_of(sheet, interval, i, *at) not in others])
+    return with_number(plan[0], i, start), with_number(plan[1], i, unit)
 
 
 def with_number(numbers, i, number):
