@@ -16,6 +16,7 @@
 SAME(sizeof(leastplan_interval), 16);
 SAME(sizeof(leastplan_text), 16);
 SAME(sizeof(leastplan_order), 16);
+SAME(LEASTPLAN_PAGE_ROOM, 8 * (1 + 64) * 45);
 
 SAME(sizeof(leastplan_type), 16);
 SAME(sizeof(leastplan_operation), 24);
@@ -40,4 +41,6 @@ SAME(sizeof(bool), 1);
 CALL leastplan_interval leastplan_least_interval(const uint8_t *, size_t);
 CALL leastplan_text leastplan_plan_text(const uint8_t *, size_t, size_t, uint8_t *, size_t);
 CALL leastplan_order leastplan_slot_order(const uint8_t *, size_t, size_t, size_t);
+CALL leastplan_text leastplan_page(
+    const uint8_t *, size_t, size_t, const size_t *, size_t, const size_t *, size_t, uint8_t *, size_t);
 CALL leastplan_placed leastplan_place_into(leastplan_table *, leastplan_sheet, size_t, size_t, size_t);

@@ -8,7 +8,7 @@
 #include "leastplan.h"
 #include "expect.h"
 
-enum { LONGEST = 4096, FILL = 0x5A, TEXT = 512, MOST = 4 };
+enum { LONGEST = 4096, FILL = 0x5A, TEXT = 512, MOST = 24 };
 
 /* A loop: its types (instances, latency), the type of each operation, its edges. */
 typedef struct {
@@ -84,11 +84,11 @@ static const char PLAN_A[] = "answer=0\ninterval=3\nat=0,0\nat=1,0\nat=2,0\n";
 static const char PLAN_THREE[] = "answer=0\ninterval=2\nat=0,0\nat=0,1\nat=1,0\n";
 
 /* A copy that is allocated to the byte. */
-static uint8_t *copy_of(const char *text, size_t length)
+static void *copy_of(const void *bytes, size_t length)
 {
-    uint8_t *bytes = malloc(length);
-    memcpy(bytes, text, length);
-    return bytes;
+    void *copy = malloc(length);
+    memcpy(copy, bytes, length);
+    return copy;
 }
 
 static int least_is(const char *text, size_t length, uint64_t answer, uint64_t interval)
@@ -109,18 +109,46 @@ static int order_is(const char *text, uint64_t interval, uint64_t pair, uint64_t
 }
 
 /* The answer in a buffer of this size; with 0 the text is written and the rest left, else all is left. */
+static int written_is(leastplan_text got, const uint8_t *out, size_t room, uint64_t answer, const char *text)
+{
+    size_t written = answer == 0 ? strlen(text) : 0;
+    int good = got.answer == answer && got.count == written;
+    if (written) good = good && memcmp(out, text, written) == 0;
+    for (size_t k = written; k < room; k++) good = good && out[k] == FILL;
+    return good;
+}
+
 static int text_is(const char *text, size_t length, uint64_t interval, size_t room, uint64_t answer, const char *plan)
 {
     uint8_t *sheet = copy_of(text, length), *out = malloc(room);
-    size_t written = answer == 0 ? strlen(plan) : 0;
-    int good;
     memset(out, FILL, room);
     leastplan_text got = leastplan_plan_text(sheet, length, interval, out, room);
-    good = got.answer == answer && got.count == written;
-    if (written) good = good && memcmp(out, plan, written) == 0;
-    for (size_t k = written; k < room; k++) good = good && out[k] == FILL;
+    int good = written_is(got, out, room, answer, plan);
     free(sheet);
     free(out);
+    return good;
+}
+
+/* Starts and instances that are handed in; there is space for one more than a sheet may have operations. */
+typedef struct {
+    size_t start_count, starts[MOST + 1];
+    size_t instance_count, instances[MOST + 1];
+} places;
+
+static int page_is(const char *text, uint64_t interval, places given, size_t room, uint64_t answer, const char *page)
+{
+    size_t length = strlen(text), start_count = given.start_count, instance_count = given.instance_count;
+    uint8_t *sheet = copy_of(text, length), *out = malloc(room);
+    size_t *starts = copy_of(given.starts, start_count * sizeof *starts);
+    size_t *instances = copy_of(given.instances, instance_count * sizeof *instances);
+    memset(out, FILL, room);
+    leastplan_text got =
+        leastplan_page(sheet, length, interval, starts, start_count, instances, instance_count, out, room);
+    int good = written_is(got, out, room, answer, page);
+    free(sheet);
+    free(out);
+    free(starts);
+    free(instances);
     return good;
 }
 
@@ -209,6 +237,128 @@ static void pairs(void)
     EXPECT(order_is(LATE, 1, 0, 6, 0));
 }
 
+static const places THREE_PLACES = {3, {0, 0, 1}, 3, {0, 1, 0}}, A_PLACES = {3, {2, 0, 1}, 3, {0}};
+static const places ONE_PLACE = {1, {0}, 1, {0}}, NO_PLACES = {0};
+
+static const char PAGE_THREE[] =
+    "type    0                                   \n"
+    "   0    0    1                              \n"
+    "   1    2    -                              \n";
+
+/* Of starts that break the dependences, and without the unlimited type. */
+static const char PAGE_A[] =
+    "type    0                                   \n"
+    "   0    -                                   \n"
+    "   1    2                                   \n"
+    "   2    0                                   \n";
+
+static void pages(void)
+{
+    for (size_t room = 0; room < strlen(PAGE_THREE); room++) EXPECT(page_is(THREE, 2, THREE_PLACES, room, 9, ""));
+    EXPECT(page_is(THREE, 2, THREE_PLACES, strlen(PAGE_THREE), 0, PAGE_THREE));
+    EXPECT(page_is(THREE, 2, THREE_PLACES, strlen(PAGE_THREE) + 1, 0, PAGE_THREE));
+    EXPECT(page_is(A, 3, A_PLACES, 500, 0, PAGE_A));
+    EXPECT(page_is(SELF, 1, ONE_PLACE, 0, 0, ""));
+    EXPECT(page_is(SELF, 1, ONE_PLACE, 100, 0, ""));
+}
+
+static places with_place(places given, size_t i, size_t start, size_t instance)
+{
+    given.starts[i] = start;
+    given.instances[i] = instance;
+    return given;
+}
+
+static places with_counts(places given, size_t start_count, size_t instance_count)
+{
+    given.start_count = start_count;
+    given.instance_count = instance_count;
+    return given;
+}
+
+/* 10 for every other count, every number out of its range, and two operations in one slot on one unit. */
+static void refused_places(void)
+{
+    for (size_t count = 0; count <= MOST + 1; count++) {
+        if (count == 3) continue;
+        EXPECT(page_is(THREE, 2, with_counts(THREE_PLACES, count, 3), 500, 10, ""));
+        EXPECT(page_is(THREE, 2, with_counts(THREE_PLACES, 3, count), 500, 10, ""));
+        EXPECT(page_is(THREE, 2, with_counts(THREE_PLACES, count, count), 500, 10, ""));
+    }
+    EXPECT(page_is(THREE, 2, with_place(THREE_PLACES, 2, 2, 0), 500, 10, ""));
+    EXPECT(page_is(THREE, 2, with_place(THREE_PLACES, 2, SIZE_MAX, 0), 500, 10, ""));
+    EXPECT(page_is(THREE, 2, with_place(THREE_PLACES, 2, 1, 2), 500, 10, ""));
+    EXPECT(page_is(THREE, 2, with_place(THREE_PLACES, 2, 1, SIZE_MAX), 500, 10, ""));
+    EXPECT(page_is(THREE, 2, with_place(THREE_PLACES, 1, 0, 0), 500, 10, ""));
+    EXPECT(page_is(THREE, 1, THREE_PLACES, 500, 10, ""));
+    EXPECT(page_is(A, 3, with_place(A_PLACES, 1, 0, 1), 500, 10, ""));
+    EXPECT(page_is(A, 3, with_place(A_PLACES, 1, 3, 0), 500, 10, ""));
+}
+
+/* The sheet goes before the interval, that before the room, and that before the places. */
+static void order_of_refusals(void)
+{
+    static char longer[LONGEST + 2];
+    memset(longer, '\n', LONGEST + 1);
+    EXPECT(page_is(longer, 0, NO_PLACES, 0, 1, ""));
+    EXPECT(page_is("", 0, NO_PLACES, 0, 2, ""));
+    EXPECT(page_is("horizon=129\n", 0, NO_PLACES, 0, 3, ""));
+    EXPECT(page_is(UPSIDE_DOWN, SIZE_MAX, NO_PLACES, 0, 16, ""));
+    EXPECT(page_is(THREE, 0, NO_PLACES, 0, 4, ""));
+    EXPECT(page_is(THREE, 3, THREE_PLACES, 500, 4, ""));
+    EXPECT(page_is(THREE, SIZE_MAX, NO_PLACES, 0, 4, ""));
+    EXPECT(page_is(THREE, 2, NO_PLACES, strlen(PAGE_THREE) - 1, 9, ""));
+    EXPECT(page_is(THREE, 2, NO_PLACES, strlen(PAGE_THREE), 10, ""));
+}
+
+static void null_pointers(void)
+{
+    const uint8_t *three = (const uint8_t *)THREE, *self = (const uint8_t *)SELF;
+    const size_t *ones = ONE_PLACE.starts;
+    uint8_t out[sizeof PAGE_THREE];
+    EXPECT(leastplan_page(NULL, 0, 0, NULL, 0, NULL, 0, NULL, 0).answer == 2);
+    EXPECT(leastplan_page(three, strlen(THREE), 2, NULL, 0, NULL, 0, NULL, 0).answer == 9);
+    EXPECT(leastplan_page(three, strlen(THREE), 2, NULL, 0, NULL, 0, out, sizeof out).answer == 10);
+    EXPECT(leastplan_page(self, strlen(SELF), 1, ones, 1, NULL, 0, NULL, 0).answer == 10);
+    EXPECT(leastplan_page(self, strlen(SELF), 1, NULL, 0, ones, 1, NULL, 0).answer == 10);
+    leastplan_text got = leastplan_page(self, strlen(SELF), 1, ones, 1, ones, 1, NULL, 0);
+    EXPECT(got.answer == 0 && got.count == 0);
+}
+
+/* 24 operations on 8 types of 8 units at interval 64: a page with nothing on it, then each operation in its cell. */
+static void put_largest(char *page, places given)
+{
+    char *at = page, number[TEXT];
+    for (int r = 0; r < 8; r++) {
+        at += sprintf(at, "type%5d%35s\n", r, "");
+        for (int slot = 0; slot < 64; slot++)
+            at += sprintf(at, "%4d    -    -    -    -    -    -    -    -\n", slot);
+    }
+    for (int i = 0; i < MOST; i++) {
+        size_t line = i % 8 * 65 + 1 + given.starts[i] % 64;
+        sprintf(number, "%5d", i);
+        memcpy(page + line * 45 + 4 + given.instances[i] * 5, number, 5);
+    }
+}
+
+static void largest_page(void)
+{
+    static char page[LEASTPLAN_PAGE_ROOM + 1], sheet[TEXT];
+    loop eight = {.horizon = 128, .cap = 64, .type_count = 8, .op_count = MOST};
+    places given = {.start_count = MOST, .instance_count = MOST};
+    for (int r = 0; r < 8; r++) eight.types[r][0] = 8;
+    for (int i = 0; i < MOST; i++) {
+        eight.kinds[i] = i % 8;
+        given.starts[i] = 127 - i;
+        given.instances[i] = 7 - i / 8;
+    }
+    put_sheet(sheet, eight, NULL);
+    put_largest(page, given);
+    EXPECT(strlen(page) == LEASTPLAN_PAGE_ROOM);
+    EXPECT(page_is(sheet, 64, given, LEASTPLAN_PAGE_ROOM, 0, page));
+    EXPECT(page_is(sheet, 64, given, LEASTPLAN_PAGE_ROOM - 1, 9, ""));
+}
+
 static void refused_sheets(void)
 {
     static char longer[LONGEST + 1];
@@ -242,6 +392,11 @@ int main(void)
     intervals();
     buffers();
     pairs();
+    pages();
+    refused_places();
+    order_of_refusals();
+    null_pointers();
+    largest_page();
     refused_sheets();
     if (!failures) printf("ok C calls (%d checks)\n", checks);
     return failures != 0;
