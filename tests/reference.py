@@ -15,7 +15,6 @@ As a program:  reference.py [COMMAND [name=number ..]] < SHEET   prints what lea
 command page_of_plan too.
 """
 
-import os
 import re
 import sys
 
@@ -717,7 +716,7 @@ def ask(words, data, plan_of=plan_at, plan=b""):
 
 def main():
     data, words = sys.stdin.buffer.read(), sys.argv[1:]
-    plan = os.read(3, SHEET_BYTES + 1) if words[:1] == [PAGE_OF_PLAN] else b""
+    plan = open(3, "rb").read() if words[:1] == [PAGE_OF_PLAN] else b""
     sys.stdout.buffer.write(ask(words, data, plan=plan) if words else leastplan(data))
 
 
