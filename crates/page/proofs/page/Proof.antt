@@ -40,14 +40,14 @@ refuse-requires-3 c κs = search needs
 
 returns-3 : tie.Need-returns-3
 returns-3 c =
-    page-denied (accepted (c .before .before .before .before .before .asked .ensures) (c .before .before .before .before .if1 .left)) (omega (arith, c .before .before .before .page-length .ensures, c .before .before .if2 .left)) (λ f. c .before .if3 .taken (f .starts)) (c .refuse3 .ensures)
+    page-denied (accepted (c .before .before .before .before .before .asked .ensures) (c .before .before .before .before .if1 .left)) (omega (arith, c .before .before .before .page-length .ensures, c .before .before .if2 .left)) (λ f. omega (arith, c .before .if3 .taken, f .starts)) (c .refuse3 .ensures)
 
 refuse-requires-4 : tie.Need-refuse-requires-4
 refuse-requires-4 c κs = search needs
 
 returns-4 : tie.Need-returns-4
 returns-4 c =
-    page-denied (accepted (c .before .before .before .before .before .before .asked .ensures) (c .before .before .before .before .before .if1 .left)) (omega (arith, c .before .before .before .before .page-length .ensures, c .before .before .before .if2 .left)) (λ f. c .before .if4 .taken (f .instances)) (c .refuse4 .ensures)
+    page-denied (accepted (c .before .before .before .before .before .before .asked .ensures) (c .before .before .before .before .before .if1 .left)) (omega (arith, c .before .before .before .before .page-length .ensures, c .before .before .before .if2 .left)) (λ f. omega (arith, c .before .if4 .taken, f .instances)) (c .refuse4 .ensures)
 
 full-table-requires : tie.Need-full-table-requires
 full-table-requires c κs =
