@@ -38,22 +38,36 @@ returns c =
     put (lists (c .before .before .before .denied .ensures) (subst (Serves (a .sheet) (Page (a .interval))) (page-denied (a .sheet) (a .interval) (p .result) (c .before .before .before .before .before .before .if1 .taken)) (prints.page (p .ensures)))) (w .0) (w .1)
 
 array-share-prefix-starts : tie.Need-array-share-prefix-starts
-array-share-prefix-starts c = let h = ops-most (c .before .before .before .before .before .before .pre) in let n : length (c .before .before .before .before .plan-at .result .starts) ≡ mostOperations = search needs in omega arith
+array-share-prefix-starts c =
+    let h = ops-most (c .before .before .before .before .before .before .pre) in
+    let a = c .before .before .before .before .plan-at .result in
+    let n : length (a .starts) ≡ mostOperations = search needs in
+    let m : length (a .instances) ≡ mostOperations = search needs in
+    omega arith
 
 slice-aggregate-given : tie.Need-slice-aggregate-given
 slice-aggregate-given c =
     let h = ops-most (c .before .before .before .before .before .before .before .pre) in
-    let n : length (c .before .before .before .before .before .plan-at .result .starts) ≡ mostOperations = search needs in
-    sym (length-take-le (c .before .before .before .before .before .before .before .args .sheet .«op_count») (c .before .before .before .before .before .plan-at .result .starts) (omega arith))
+    let a = c .before .before .before .before .before .plan-at .result in
+    let n : length (a .starts) ≡ mostOperations = search needs in
+    let m : length (a .instances) ≡ mostOperations = search needs in
+    sym (length-take-le _ _ (omega arith))
 
 array-share-prefix-instances : tie.Need-array-share-prefix-instances
-array-share-prefix-instances c = let h = ops-most (c .before .before .before .before .before .before .before .pre) in let n : length (c .before .before .before .before .before .plan-at .result .instances) ≡ mostOperations = search needs in omega arith
+array-share-prefix-instances c =
+    let h = ops-most (c .before .before .before .before .before .before .before .pre) in
+    let a = c .before .before .before .before .before .plan-at .result in
+    let n : length (a .starts) ≡ mostOperations = search needs in
+    let m : length (a .instances) ≡ mostOperations = search needs in
+    omega arith
 
 slice-aggregate-given-2 : tie.Need-slice-aggregate-given-2
 slice-aggregate-given-2 c =
     let h = ops-most (c .before .before .before .before .before .before .before .before .pre) in
-    let n : length (c .before .before .before .before .before .before .plan-at .result .instances) ≡ mostOperations = search needs in
-    sym (length-take-le (c .before .before .before .before .before .before .before .before .args .sheet .«op_count») (c .before .before .before .before .before .before .plan-at .result .instances) (omega arith))
+    let a = c .before .before .before .before .before .before .plan-at .result in
+    let n : length (a .starts) ≡ mostOperations = search needs in
+    let m : length (a .instances) ≡ mostOperations = search needs in
+    sym (length-take-le _ _ (omega arith))
 
 given-requires : tie.Need-given-requires
 given-requires c κs = search needs
