@@ -325,38 +325,42 @@ static void null_pointers(void)
     EXPECT(got.answer == 0 && got.count == 0);
 }
 
-/* 24 operations on 8 types of 8 units at interval 64: a page with nothing on it, then each operation in its cell. */
+/* The largest page: 24 operations on 8 types of 8 units at interval 64. A line has the slot and a cell a unit. */
+enum { TYPES = 8, UNITS = 8, SLOTS = 64, SLOT_WIDTH = 4, CELL = 5 };
+enum { LINE = LEASTPLAN_PAGE_ROOM / (TYPES * (1 + SLOTS)) };
+
+/* A page with nothing on it, then each operation in its cell. */
 static void put_largest(char *page, places given)
 {
     char *at = page, number[TEXT];
-    for (int r = 0; r < 8; r++) {
-        at += sprintf(at, "type%5d%35s\n", r, "");
-        for (int slot = 0; slot < 64; slot++)
-            at += sprintf(at, "%4d    -    -    -    -    -    -    -    -\n", slot);
+    for (int r = 0; r < TYPES; r++) {
+        at += sprintf(at, "type%*d%*s\n", CELL, r, (UNITS - 1) * CELL, "");
+        for (int slot = 0; slot < SLOTS; slot++)
+            at += sprintf(at, "%*d    -    -    -    -    -    -    -    -\n", SLOT_WIDTH, slot);
     }
     for (int i = 0; i < MOST; i++) {
-        size_t line = i % 8 * 65 + 1 + given.starts[i] % 64;
-        sprintf(number, "%5d", i);
-        memcpy(page + line * 45 + 4 + given.instances[i] * 5, number, 5);
+        size_t line = i % TYPES * (1 + SLOTS) + 1 + given.starts[i] % SLOTS;
+        sprintf(number, "%*d", CELL, i);
+        memcpy(page + line * LINE + SLOT_WIDTH + given.instances[i] * CELL, number, CELL);
     }
 }
 
 static void largest_page(void)
 {
     static char page[LEASTPLAN_PAGE_ROOM + 1], sheet[TEXT];
-    loop eight = {.horizon = 128, .cap = 64, .type_count = 8, .op_count = MOST};
+    loop eight = {.horizon = 2 * SLOTS, .cap = SLOTS, .type_count = TYPES, .op_count = MOST};
     places given = {.start_count = MOST, .instance_count = MOST};
-    for (int r = 0; r < 8; r++) eight.types[r][0] = 8;
+    for (int r = 0; r < TYPES; r++) eight.types[r][0] = UNITS;
     for (int i = 0; i < MOST; i++) {
-        eight.kinds[i] = i % 8;
-        given.starts[i] = 127 - i;
-        given.instances[i] = 7 - i / 8;
+        eight.kinds[i] = i % TYPES;
+        given.starts[i] = eight.horizon - 1 - i;
+        given.instances[i] = UNITS - 1 - i / TYPES;
     }
     put_sheet(sheet, eight, NULL);
     put_largest(page, given);
     EXPECT(strlen(page) == LEASTPLAN_PAGE_ROOM);
-    EXPECT(page_is(sheet, 64, given, LEASTPLAN_PAGE_ROOM, 0, page));
-    EXPECT(page_is(sheet, 64, given, LEASTPLAN_PAGE_ROOM - 1, 9, ""));
+    EXPECT(page_is(sheet, SLOTS, given, LEASTPLAN_PAGE_ROOM, 0, page));
+    EXPECT(page_is(sheet, SLOTS, given, LEASTPLAN_PAGE_ROOM - 1, 9, ""));
 }
 
 static void refused_sheets(void)

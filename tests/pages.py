@@ -9,6 +9,9 @@ from sheets import HUGE
 
 MOST_COUNT = ref.MOST_OPERATIONS + 1  # one more than there may be
 
+# The sheet with the longest page, at interval 64: 8 types of 8 instances.
+WIDEST = ref.plain_sheet(128, 64, [(8, 1)] * 8, [i % 8 for i in range(ref.MOST_OPERATIONS)], [])
+
 
 # ---- starts and instances
 

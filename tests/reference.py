@@ -560,8 +560,9 @@ def place(sheet, interval, table, op, start):
 
 # ---- the page: the reservation table of a plan that is handed in
 
-MOST_INSTANCES = 8
+MOST_INSTANCES = RANGES["A"][1]
 PAGE_LINE = 4 + 5 * MOST_INSTANCES + 1  # bytes, with the line feed
+LONGEST_PAGE = RANGES["R"][1] * (1 + RANGES["M"][1]) * PAGE_LINE  # a heading and a line for each slot of each type
 
 
 def limited_types(sheet):
