@@ -393,9 +393,13 @@ PAGE = [
 ]
 
 
-def example(name):
-    with open(os.path.join(ROOT, "examples", name), "rb") as source:
+def bytes_of(path):
+    with open(path, "rb") as source:
         return source.read()
+
+
+def example(name):
+    return bytes_of(os.path.join(ROOT, "examples", name))
 
 
 def command_page():
