@@ -7,6 +7,7 @@ The least of some rounds that take turns; processor time, in microseconds.
 """
 
 import ctypes
+import functools
 import os
 import sys
 import time
@@ -15,26 +16,22 @@ HERE = os.path.dirname(os.path.abspath(__file__))
 sys.path.insert(0, os.path.join(HERE, "..", "tests"))
 
 import host
-import product
+import pages
 import reference as ref
 import stored
 
-LONGEST = 23400  # bytes of the largest page
 ROUNDS, CALLS = 30, 50
 
 
 def largest():
     """8 types of 8 instances at interval 64, and 24 operations in different slots."""
-    sheet = ref.plain_sheet(128, 64, [(8, 1)] * 8, [i % 8 for i in range(24)], [])
-    return ref.sheet_text(sheet), 64, list(range(24)), [0] * 24
+    return ref.sheet_text(pages.WIDEST), pages.WIDEST.cap, list(range(24)), [0] * 24
 
 
 def current_loop():
-    path = os.path.join(product.ROOT, "examples", "current_loop")
-    with open(path + ".sheet", "rb") as sheet, open(path + ".answer") as answer:
-        plans = stored.stored_plans(answer.read())
-        _, starts, units, _ = plans[max(plans)]
-        return sheet.read(), max(plans), starts, units
+    plans = stored.stored_plans(stored.example("current_loop.answer").decode())
+    _, starts, units, _ = plans[max(plans)]
+    return stored.example("current_loop.sheet"), max(plans), starts, units
 
 
 def least(calls):
@@ -51,18 +48,24 @@ def least(calls):
 
 
 def page_call(library, text, interval, starts, units, room):
+    """The call with its arguments made, so that making them does not count."""
     given = *host.counted(text), host.SIZE(interval), *host.numbers(starts), *host.numbers(units)
     buffer = host.counted(ctypes.create_string_buffer(room))
-    return lambda: library.leastplan_page(*given, *buffer)
+    return functools.partial(library.leastplan_page, *given, *buffer)
+
+
+def read_call(library, text):
+    """Likewise."""
+    return functools.partial(library.leastplan_slot_order, *host.counted(text), host.SIZE(0), host.SIZE(0))
 
 
 def main():
     library = host.Host()
     for name, (text, *plan) in (("largest", largest()), ("current_loop", current_loop())):
-        answer, page = library.page(text, *plan, LONGEST)
+        answer, page = library.page(text, *plan, ref.LONGEST_PAGE)
         assert answer == 0
         calls = [page_call(library.library, text, *plan, len(page) - short) for short in (0, 1)]
-        times = least(calls + [lambda: library.slot_order(text, 0, 0)])
+        times = least(calls + [read_call(library.library, text)])
         row = (name, len(page), *times, times[0] / times[2])
         print("%-13s %6d bytes  page %7.1f  refused by 9 %6.1f  read %6.1f  page/read %.1f" % row)
 
