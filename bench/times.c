@@ -1,4 +1,5 @@
-/* Times the plan text of each interval that leastplan asks about, through the C archive.
+/* Times the plan text of each interval that leastplan asks about, through the C archive; of each plan that is found it
+   asks for the page too, which is not timed.
    Standard input: pieces, each a line bytes=N and N bytes of a sheet. Standard output, a line for each
    interval: sheet, interval, answer, nanoseconds; 0 or 4 is a sheet's last answer.
    Standard error: the greatest depth of the stack. */
@@ -12,7 +13,7 @@
 
 #include "leastplan.h"
 
-enum { LONGEST = 4097, MOST_INTERVALS = 64, STACK = 64 << 20, PAINT = 0xA5 };
+enum { LONGEST = 4097, MOST_INTERVALS = 64, MOST_OPERATIONS = 24, STACK = 64 << 20, PAINT = 0xA5 };
 
 /* Processor time of this thread, so that other work on the machine does not count. */
 static int64_t now(void)
@@ -22,15 +23,27 @@ static int64_t now(void)
     return t.tv_sec * INT64_C(1000000000) + t.tv_nsec;
 }
 
+/* The page of a plan by its text: for the depth of the stack. */
+static void ask_page(const uint8_t *sheet, size_t length, uint64_t interval, const char *text)
+{
+    static uint8_t page[LEASTPLAN_PAGE_ROOM];
+    size_t starts[MOST_OPERATIONS], instances[MOST_OPERATIONS], count = 0;
+    for (; count < MOST_OPERATIONS && (text = strstr(text, "at=")); count++, text++)
+        sscanf(text, "at=%zu,%zu", &starts[count], &instances[count]);
+    if (leastplan_page(sheet, length, interval, starts, count, instances, count, page, sizeof page).answer) abort();
+}
+
 static void time_sheet(int number, const uint8_t *sheet, size_t length)
 {
     static uint8_t text[4096];
     for (uint64_t interval = 1; interval <= MOST_INTERVALS; interval++) {
         int64_t began = now();
-        uint64_t answer = leastplan_plan_text(sheet, length, interval, text, sizeof text).answer;
+        leastplan_text got = leastplan_plan_text(sheet, length, interval, text, sizeof text - 1);
         int64_t took = now() - began;
-        printf("%d %d %d %lld\n", number, (int)interval, (int)answer, (long long)took);
-        if (answer == 0 || answer == 4) return;
+        printf("%d %d %d %lld\n", number, (int)interval, (int)got.answer, (long long)took);
+        text[got.count] = 0;
+        if (got.answer == 0) ask_page(sheet, length, interval, (const char *)text);
+        if (got.answer == 0 || got.answer == 4) return;
     }
 }
 
