@@ -1,8 +1,8 @@
 // ask: a command on a loop sheet, `ask COMMAND [interval=L] [pair=P]`, with the sheet on standard input, and for
 // `page_of_plan` the lines of a plan at descriptor 3.
-// The library says what the words ask for, `words::request`, what a plan's lines say, `plan_lines::read`, and all that is
-// then printed, `commands::answer` and `commands::page_of_plan`. With words that ask for no command, and with lines that
-// are no plan at the interval, it says so on standard error, reads no sheet and prints nothing.
+// The library says what the words ask for, `words::request`, what a plan's lines say, `plan_lines::read`, and all that
+// is then printed, `commands::answer` and `commands::page_of_plan`. With words that ask for no command, and with lines
+// that are no plan at the interval, it says so on standard error, reads no sheet and prints nothing.
 use commands::ROOM;
 use libc::STDIN_FILENO;
 use libc::STDOUT_FILENO;
@@ -78,7 +78,7 @@ fn print_page(interval: usize, starts: &[usize], instances: &[usize]) {
 }
 
 // Reads the plan, and prints its page if it is one at the interval.
-fn print_plan(interval: usize) {
+fn print_page_of_plan(interval: usize) {
     let mut input = [0u8; INPUT];
     let n = io::read_full(PLAN_FILENO, &mut input);
     let plan = plan_lines::read(&input[..n]);
@@ -101,7 +101,7 @@ fn main() {
     let n = os::arg(1, &mut name);
     match words::request(&name[..n], arguments()) {
         Asked::Do(command) => print(command),
-        Asked::PageOfPlan(interval) => print_plan(interval),
+        Asked::PageOfPlan(interval) => print_page_of_plan(interval),
         Asked::Unknown => told::unknown(),
         Asked::Strange => told::strange(),
         Asked::Missing(argument) => told::fault(argument, b" is missing"),

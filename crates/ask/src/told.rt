@@ -1,5 +1,5 @@
-// What is said on standard error where the words ask for no command, or the lines of a plan are none. The script `leastplan` speaks to the person, so its
-// name stands first. The words themselves are not repeated.
+// What is said on standard error where the words ask for no command, or the lines of a plan are none. The script
+// `leastplan` speaks to the person, so its name stands first. The words themselves are not repeated.
 use libc::STDERR_FILENO;
 use words::INTERVAL;
 
@@ -39,5 +39,8 @@ pub fn no_plan() {
 }
 
 pub fn another_interval() {
-    line(b"the plan", b" is of another interval than interval=");
+    line(
+        b"the plan",
+        b" is of another interval than the one asked for",
+    );
 }

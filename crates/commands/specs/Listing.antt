@@ -1,4 +1,5 @@
--- What a command prints of each answer, line by line. Every line that leastplan prints too is that of `report/Print`.
+-- What a command prints of each answer, line by line or as a page. Every line that leastplan prints too is that of
+-- `report/Print`.
 use Prim.Native.Nat.{ℕ}
 use mathlib.Core.Bool.{cond}
 use mathlib.Core.List.{List, [], _∷_, _++_}

@@ -10,7 +10,6 @@ use Rattle.text.specs.declared.Written.{Written}
 use Rattle.text.specs.Text.{over, bufferOf}
 use Rattle.text.specs.Line.{writtenOf}
 use Rattle.text.specs.Writing.{length-over}
-use Rattle.text.specs.Lines.{linesText}
 use Rattle.text.specs.Sizes.{threeDigits}
 use Rattle.sheet.specs.declared.Sheet.{Sheet}
 use Rattle.sheet.specs.Sheet.{InRange}
@@ -20,11 +19,11 @@ use Rattle.plan.specs.declared.PlanAnswer.{PlanAnswer}
 use Rattle.plan.specs.Answers.{PlanAt}
 use Rattle.plan.specs.Exactly.{accepted-given, given-first}
 use Rattle.page_text.specs.Widths.{longestPage, page-long, page-most}
-use Rattle.page.specs.Answers.{fullTable, planPage, FullTable, PageAnswer, PageAt}
+use Rattle.page.specs.Answers.{fullTable, planPage, Tabled, PageAnswer, PageAt}
 use Rattle.page.specs.OfPlans.{cut-page, plan-full}
 use Rattle.words.specs.declared.Command.the-variants.{Page}
 use Rattle.commands.specs.Listing.{firstPage}
-use Rattle.commands.specs.Prints.{Serves, page, refusalText, PageOf, Put}
+use Rattle.commands.specs.Prints.{Serves, page, refusalText, ServesPage, Put}
 use Rattle.commands.specs.Answers.{page-given}
 
 abbrev number : PageAnswer → ℕ
@@ -35,16 +34,18 @@ Within a = a .written .count ≤ length (a .buffer)
 
 module _ {s : Sheet} {L : ℕ} (ok : InRange s) {ts us old : List ℕ} (enough : longestPage ≤ length old) {a : PageAnswer} where
   -- a refusal is 4 or 10
-  pub page-refused : PageAt s L ts us old a → (number a ≡ 0 → ⊥) → PageOf s L ts us (refusalText (number a)) × (number a ≤ threeDigits)
+  pub page-refused : PageAt s L ts us old a → (number a ≡ 0 → ⊥) → ServesPage s L ts us (refusalText (number a)) × (number a ≤ threeDigits)
   page-refused (at-no n _) z = absurd (n ok)
   page-refused (at-yes r (at-no n e)) z = let q = ap number e in (at-yes r (at-no n (ap refusalText q)), omega arith)
-  page-refused (at-yes r (at-yes i (at-no n _))) z = absurd (n (omega (arith, page-most (record { sheet = r; interval = i }))))
+  page-refused (at-yes r (at-yes i (at-no n _))) z =
+      let y : Accepted s L = record { sheet = r; interval = i } in
+      absurd (n (omega (arith, page-long y (fullTable (s .«op_count») ts us), page-most y)))
   page-refused (at-yes r (at-yes i (at-yes f (at-no n e)))) z = let q = ap number e in (at-yes r (at-yes i (at-no n (ap refusalText q))), omega arith)
   page-refused (at-yes r (at-yes i (at-yes f (at-yes t e)))) z = absurd (z (ap number e))
 
   -- with 0 the page stands at the front of the buffer
-  pub page-printed : PageAt s L ts us old a → number a ≡ 0
-      → PageOf s L ts us (planPage s L ts us) × (take (a .written .count) (a .buffer) ≡ planPage s L ts us) × (length (planPage s L ts us) ≤ longestPage)
+  page-printed : PageAt s L ts us old a → number a ≡ 0
+      → ServesPage s L ts us (planPage s L ts us) × (take (a .written .count) (a .buffer) ≡ planPage s L ts us) × (length (planPage s L ts us) ≤ longestPage)
   unfolding over
   page-printed (at-no n _) z = absurd (n ok)
   page-printed (at-yes r (at-no n e)) z = absurd (omega (arith, ap number e))
@@ -60,7 +61,7 @@ module _ {s : Sheet} {L : ℕ} (ok : InRange s) {ts us old : List ℕ} (enough :
       )
 
   pub given-put : PageAt s L ts us old a → number a ≡ 0 → {out new : List ℕ} {r : Written}
-      → r ≡ writtenOf (take (a .written .count) (a .buffer)) out → new ≡ bufferOf (take (a .written .count) (a .buffer)) out → Put (PageOf s L ts us) out r new
+      → r ≡ writtenOf (take (a .written .count) (a .buffer)) out → new ≡ bufferOf (take (a .written .count) (a .buffer)) out → Put (ServesPage s L ts us) out r new
   given-put p z {out} e f =
       let q = page-printed p z in
       record {
@@ -85,10 +86,10 @@ module _ {s : Sheet} {L : ℕ} (ok : InRange s) {ts us old : List ℕ} (enough :
 
 -- the page of the first plan is the page of its starts and instances
 pub first-served : {s : Sheet} {L : ℕ} {a : PlanAnswer} → PlanAt s L a → a .answer ≡ 0
-    → (text : List ℕ) → PageOf s L (take (s .«op_count») (a .starts)) (take (s .«op_count») (a .instances)) text → Serves s (Page L) text
+    → (text : List ℕ) → ServesPage s L (take (s .«op_count») (a .starts)) (take (s .«op_count») (a .instances)) text → Serves s (Page L) text
 first-served {s} {L} {a} p z text served = subst (Serves s (Page L)) (sym (at served)) (page p)
   where
-    full : FullTable s L (take (s .«op_count») (a .starts)) (take (s .«op_count») (a .instances))
+    full : Tabled s L (take (s .«op_count») (a .starts)) (take (s .«op_count») (a .instances))
     full =
         let h = accepted-given p z in
         let g = h .1 in
@@ -97,7 +98,7 @@ first-served {s} {L} {a} p z text served = subst (Serves s (Page L)) (sym (at se
         let m = ops-most (h .0 .sheet) in
         plan-full s (a .starts) (a .instances) (h .0 .sheet) (omega arith) (omega arith) (given-first g .plan)
 
-    at : PageOf s L (take (s .«op_count») (a .starts)) (take (s .«op_count») (a .instances)) text → text ≡ firstPage s L a
+    at : ServesPage s L (take (s .«op_count») (a .starts)) (take (s .«op_count») (a .instances)) text → text ≡ firstPage s L a
     at (at-no n _) = absurd (n (accepted-given p z .0 .sheet))
     at (at-yes _ (at-no n _)) = absurd (n (accepted-given p z .0 .interval))
     at (at-yes _ (at-yes _ (at-no n _))) = absurd (n full)

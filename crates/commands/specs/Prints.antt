@@ -23,14 +23,14 @@ use Rattle.plan.specs.Resource.{ResourceAt}
 use Rattle.plan.specs.Answers.{PlanAt}
 use Rattle.slot_order.specs.declared.SlotOrder.{SlotOrder}
 use Rattle.slot_order.specs.Answers.{SlotOrderAt}
-use Rattle.page.specs.Answers.{planPage, FullTable}
+use Rattle.page.specs.Answers.{planPage, IfTabled}
 use Rattle.report.specs.Print.{answerLine}
 use Rattle.words.specs.declared.Command.{Command}
 use Rattle.words.specs.declared.Command.the-variants.{Bounds, Starts, Separations, Plan, Page, Order, Check, Write}
 use Rattle.commands.specs.Listing.{boundsLines, startsLines, separationsLines, planLines, orderLines, firstPage, refusalLines}
 
--- of a sheet that was read: the lines of the service's answer; `check` has nothing to add, `write` gives the sheet's
--- own text
+-- of a sheet that was read: the lines of the service's answer; `page` gives a page, `check` has nothing to add, `write`
+-- gives the sheet's own text
 pub data Serves (s : Sheet) : Command → List ℕ → Type 0 where
   bounds : {r : recurrence.Bound} {q : resource.Bound} → RecurrenceAt s r → ResourceAt s q → Serves s Bounds (linesText (boundsLines r q))
   starts : {L : ℕ} {a : earliest.Starts} → StartsAt s L a → Serves s (Starts L) (linesText (startsLines s L a))
@@ -53,16 +53,16 @@ abbrev pub refusalText : ℕ → List ℕ
 refusalText n = linesText (answerLine n ∷ [])
 
 -- of a sheet that was read: 4 and 10, then the plan's page
-abbrev pub PageOf : Sheet → ℕ → List ℕ → List ℕ → List ℕ → Type 0
-PageOf s L ts us = AtInterval refusalText s L (Asked (FullTable s L ts us) (Is (refusalText 10)) (Is (planPage s L ts us)))
+abbrev pub ServesPage : Sheet → ℕ → List ℕ → List ℕ → List ℕ → Type 0
+ServesPage s L ts us = AtInterval refusalText s L (IfTabled refusalText s L ts us (Is (planPage s L ts us)))
 
 -- of the bytes of a sheet
 abbrev pub PrintsPage : List ℕ → ℕ → List ℕ → List ℕ → List ℕ → Type 0
-PrintsPage bytes L ts us = Asked (readOf bytes .answer ≡ 0) (Is (refusalText (readOf bytes .answer))) (PageOf (readOf bytes .sheet) L ts us)
+PrintsPage bytes L ts us = Asked (readOf bytes .answer ≡ 0) (Is (refusalText (readOf bytes .answer))) (ServesPage (readOf bytes .sheet) L ts us)
 
 -- ---- the lent buffer
 
--- bytes that are enough for whatever is printed
+-- bytes that are enough for whatever is printed: the longest is a page, of 23,400 bytes at most
 abbrev pub room : ℕ
 room = 24576
 

@@ -17,7 +17,7 @@ mod parts; // parts.rt: lines that several answers share
 mod rows; // rows.rt: the rows of the separation table
 mod services; // services.rt: the lines of each service's answer
 
-// Room for whatever a command prints.
+// Room for whatever a command prints; a page, the longest, leaves a thousand bytes of it.
 pub const ROOM: usize = 24576;
 
 // The lines that leastplan prints for the interval; the answer alone where the interval is refused.
@@ -78,8 +78,8 @@ pub fn answer(command: Command, bytes: &[u8], out: &mut [u8]) -> Written
     serve(command, sheet, out)
 }
 
-// All that is printed for the bytes of a sheet and a plan that is given besides, by its starts and instances: the plan's
-// page, or the refusal's number alone; into `out` as by `answer`.
+// All that is printed for the bytes of a sheet and a plan that is given besides, by its starts and instances: the
+// plan's page, or the refusal's number alone; into `out` as by `answer`.
 pub fn page_of_plan(
     bytes: &[u8],
     interval: usize,

@@ -1,6 +1,6 @@
 // Pages of plans, or the lines of why there is none.
 ghost use Rattle.sheet.specs.Sheet.{InRange};
-ghost use Rattle.commands.specs.Prints.{Put, Serves, PageOf};
+ghost use Rattle.commands.specs.Prints.{Put, Serves, ServesPage};
 use crate::parts;
 use sheet::Sheet;
 use text::Written;
@@ -15,7 +15,7 @@ pub fn given(
     out: &mut [u8],
 ) -> Written
     requires { ⌜ InRange sheet ⌝ }
-    ensures { λ r. ⌜ Put (PageOf sheet interval (now (starts .entry)) (now (instances .entry))) (now (out .entry)) r (now (out .exit)) ⌝ }
+    ensures { λ r. ⌜ Put (ServesPage sheet interval (now (starts .entry)) (now (instances .entry))) (now (out .entry)) r (now (out .exit)) ⌝ }
 {
     let mut text = [0u8; page::ROOM];
     let written = page::page(sheet, interval, starts, instances, &mut text);

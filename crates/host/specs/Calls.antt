@@ -41,8 +41,8 @@ pub data SlotOrderOf (bytes : List ℕ) (L pair : ℕ) : OrderAnswer → Type 0 
   served-order : readOf bytes .answer ≡ 0 → {r : SlotOrder} → SlotOrderAt (readOf bytes .sheet) L pair r → SlotOrderOf bytes L pair (orderAnswer r)
 
 -- page into the lent buffer old
-abbrev pub PageFor : List ℕ → ℕ → List ℕ → List ℕ → List ℕ → PageAnswer → Type 0
-PageFor bytes L ts us old =
+abbrev pub PageOf : List ℕ → ℕ → List ℕ → List ℕ → List ℕ → PageAnswer → Type 0
+PageOf bytes L ts us old =
     Asked (readOf bytes .answer ≡ 0) (Is (pageRefused old (readOf bytes .answer))) (PageAt (readOf bytes .sheet) L ts us old)
 
 -- from what reading gave
@@ -68,8 +68,8 @@ module _ (bytes : List ℕ) {q : ReadAnswer} (e : q ≡ readOf bytes) where
   pub order-served : {L pair : ℕ} {r : SlotOrder} → q .answer ≡ 0 → SlotOrderAt (q .sheet) L pair r → SlotOrderOf bytes L pair (orderAnswer r)
   order-served {L} {pair} {r} z l = served-order (sym same-answer ∙ z) (subst (λ (s : Sheet). SlotOrderAt s L pair r) (ap (λ (x : ReadAnswer). x .sheet) e) l)
 
-  pub page-unread : {L : ℕ} {ts us old : List ℕ} → (q .answer ≡ 0 → ⊥) → PageFor bytes L ts us old (pageRefused old (q .answer))
+  pub page-unread : {L : ℕ} {ts us old : List ℕ} → (q .answer ≡ 0 → ⊥) → PageOf bytes L ts us old (pageRefused old (q .answer))
   page-unread {old = old} n = at-no (λ z. n (same-answer ∙ z)) (ap (pageRefused old) same-answer)
 
-  pub page-served : {L : ℕ} {ts us old : List ℕ} {a : PageAnswer} → q .answer ≡ 0 → PageAt (q .sheet) L ts us old a → PageFor bytes L ts us old a
+  pub page-served : {L : ℕ} {ts us old : List ℕ} {a : PageAnswer} → q .answer ≡ 0 → PageAt (q .sheet) L ts us old a → PageOf bytes L ts us old a
   page-served {L} {ts} {us} {old} {a} z p = at-yes (sym same-answer ∙ z) (subst (λ (s : Sheet). PageAt s L ts us old a) (ap (λ (x : ReadAnswer). x .sheet) e) p)

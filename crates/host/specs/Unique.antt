@@ -11,7 +11,7 @@ use Rattle.report.specs.PlanText.{once}
 use Rattle.slot_order.specs.Unique.{slot-order-unique}
 use Rattle.page.specs.Unique.{page-unique}
 use Rattle.host.specs.declared.OrderAnswer.{OrderAnswer}
-use Rattle.host.specs.Calls.{LeastOf, unread, served, PlanTextOf, unread-text, served-text, SlotOrderOf, unread-order, served-order, textAnswer, orderAnswer, PageFor}
+use Rattle.host.specs.Calls.{LeastOf, unread, served, PlanTextOf, unread-text, served-text, SlotOrderOf, unread-order, served-order, textAnswer, orderAnswer, PageOf}
 
 -- least interval
 pub least-of-unique : {bytes : List ℕ} {r r' : IntervalAnswer} → LeastOf bytes r → LeastOf bytes r' → r ≡ r'
@@ -35,5 +35,5 @@ slot-order-of-unique (served-order z a) (unread-order m) = absurd (m z)
 slot-order-of-unique (served-order z a) (served-order y b) = ap orderAnswer (slot-order-unique _ _ a b)
 
 -- page: the answer and the buffer
-pub page-for-unique : (bytes : List ℕ) {L : ℕ} {ts us old : List ℕ} → One (PageFor bytes L ts us old)
-page-for-unique bytes = asked-one (is-one _) page-unique
+pub page-of-unique : (bytes : List ℕ) {L : ℕ} {ts us old : List ℕ} → One (PageOf bytes L ts us old)
+page-of-unique bytes = asked-one (is-one _) page-unique

@@ -2,7 +2,7 @@
 // service; include/leastplan.h describes them.
 ghost use mathlib.Core.Path.{_≡_};
 ghost use Rattle.text.specs.Line.{refused};
-ghost use Rattle.host.specs.Calls.{LeastOf, PlanTextOf, SlotOrderOf, PageFor};
+ghost use Rattle.host.specs.Calls.{LeastOf, PlanTextOf, SlotOrderOf, PageOf};
 use plan::IntervalAnswer;
 use text::Written;
 
@@ -78,7 +78,7 @@ pub extern "C" fn leastplan_page(
     instances: &[usize],
     out: &mut [u8],
 ) -> Written
-    ensures { λ r. ⌜ PageFor (now (sheet .entry)) interval (now (starts .entry)) (now (instances .entry)) (now (out .entry)) (record { written = r; buffer = now (out .exit) }) ⌝ }
+    ensures { λ r. ⌜ PageOf (now (sheet .entry)) interval (now (starts .entry)) (now (instances .entry)) (now (out .entry)) (record { written = r; buffer = now (out .exit) }) ⌝ }
 {
     let read = reader::read(sheet);
     let answer = read.answer;

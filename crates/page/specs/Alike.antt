@@ -1,34 +1,33 @@
 -- Two plans of one sheet and interval that differ in a limited operation's slot or instance never print alike.
 -- Assumes nothing.
-use Prim.Native.Nat.{ℕ, zero, suc, _%_, _≤_, _<_}
+use Prim.Native.Nat.{ℕ, zero, suc, _<_}
 use native.Mathlib.Nat.{mod-lt}
 use native.Mathlib.Omega.{arith}
 use native.Mathlib.Decide.{ℕ-discrete}
 use mathlib.Core.Path.{_≡_, refl, sym, ap, subst, _∙_}
-use mathlib.Core.List.{List, [], _∷_, _++_}
+use mathlib.Core.List.{List, _++_}
 use mathlib.Core.Bool.{Bool, true, false, cond}
-use lib.Dec.{ltb, eqb}
-use lib.ListN.{length}
+use lib.Dec.{eqb}
 use borrow.Author.Tests.{lt-ltb, eqb-true, eq-eqb}
 use Rattle.sizes.specs.Sizes.{mostInstances}
 use Rattle.laws.specs.Entry.{vec}
 use Rattle.laws.specs.Count.{both-true, both-show}
 use Rattle.text.specs.Text.{digits}
 use Rattle.sheet.specs.declared.Sheet.{Sheet}
-use Rattle.sheet.specs.Sheet.{Limited, opAt, typeAt, typeOf}
+use Rattle.sheet.specs.Sheet.{Limited, opAt, typeAt}
 use Rattle.sheet.specs.Facts.{ops-most, types-most, resource-below, op-instances-most}
 use Rattle.sheet.specs.Questions.{Accepted}
-use Rattle.plan.specs.Rules.{InstanceAllowed, Overlap, slot}
+use Rattle.plan.specs.Rules.{InstanceAllowed, slot}
 use Rattle.placing.specs.declared.Placement.{Placement}
 use Rattle.placing.specs.declared.Table.{Table}
-use Rattle.placing.specs.Table.{placementAt, Placed}
+use Rattle.placing.specs.Table.{placementAt}
 use Rattle.page_text.specs.Columns.{blanks, right, upTo, lineFeed}
-use Rattle.page_text.specs.Page.{headingLine, userText, columnText, slotLine, typeLines, reserves, uses, lastOf, userOf, pageText, lineLength, typeLength}
+use Rattle.page_text.specs.Page.{columnWidth, slotWidth, headingLine, userText, columnText, slotLine, reserves, uses, userOf, typeText, pageText}
 use Rattle.page_text.specs.Digits.{five-tell, no-dash}
 use Rattle.page_text.specs.Joining.{split-equal, up-parts}
 use Rattle.page_text.specs.Users.{last-true, last-only}
-use Rattle.page_text.specs.Widths.{column-wide, columns-wide, slot-parts, slot-long, limited-lines, users-few, few-slots, type-of-long, page-lines}
-use Rattle.page.specs.Answers.{fullTable, planPage, FullTable}
+use Rattle.page_text.specs.Widths.{lineLength, typeLength, column-wide, columns-wide, slot-parts, slot-long, limited-lines, users-few, few-slots, type-of-long, page-lines}
+use Rattle.page.specs.Answers.{fullTable, planPage, Tabled}
 use Rattle.page.specs.Tables.{placedAt, full-at}
 
 -- ---- the text tells who uses each instance
@@ -44,30 +43,30 @@ column-tells : (A a x y : ℕ) → a < A → x < 100 → y < 100 → columnText 
 unfolding columnText
 column-tells A a x y l h k e =
     let t = lt-ltb a A l in
-    user-tells x y h k (sym (ap (λ (b : Bool). cond b (userText x) (blanks 5)) t) ∙ e ∙ ap (λ (b : Bool). cond b (userText y) (blanks 5)) t)
+    user-tells x y h k (sym (ap (λ (b : Bool). cond b (userText x) (blanks columnWidth)) t) ∙ e ∙ ap (λ (b : Bool). cond b (userText y) (blanks columnWidth)) t)
 
 module _ {s : Sheet} {L : ℕ} (ok : Accepted s L) (one two : Table) where
   module _ (r : ℕ) (r-below : r < s .«type_count») where
     abbrev A : ℕ
     A = typeAt s r .instances
 
-    abbrev lineOf : Table → ℕ → List ℕ
-    lineOf table slot′ = slotLine A (userOf s L table r slot′) slot′
+    abbrev lineIn : Table → ℕ → List ℕ
+    lineIn table slot′ = slotLine A (userOf s L table r slot′) slot′
 
-    type-same : pageText s L one ≡ pageText s L two → typeLines L A (userOf s L one r) r ≡ typeLines L A (userOf s L two r) r
+    type-same : pageText s L one ≡ pageText s L two → typeText s L one r ≡ typeText s L two r
     type-same e =
         let m = types-most (ok .sheet) in
-        up-parts (s .«type_count») (λ q. typeLines L (typeAt s q .instances) (userOf s L one q) q) (λ q. typeLines L (typeAt s q .instances) (userOf s L two q) q)
+        up-parts (s .«type_count») (typeText s L one) (typeText s L two)
         (λ q. typeLength L (typeAt s q .instances))
         (λ q l. type-of-long ok one q (omega arith)) (λ q l. type-of-long ok two q (omega arith))
         (sym (page-lines s L one) ∙ e ∙ page-lines s L two) r r-below
 
-    line-same : 0 < A → pageText s L one ≡ pageText s L two → (slot′ : ℕ) → slot′ < L → lineOf one slot′ ≡ lineOf two slot′
+    line-same : 0 < A → pageText s L one ≡ pageText s L two → (slot′ : ℕ) → slot′ < L → lineIn one slot′ ≡ lineIn two slot′
     line-same h e slot′ l =
         let w = sym (limited-lines L A (userOf s L one r) r h) ∙ type-same e ∙ limited-lines L A (userOf s L two r) r h in
-        let v = split-equal (headingLine r) (upTo L (lineOf one)) (headingLine r) (upTo L (lineOf two)) refl w in
+        let v = split-equal (headingLine r) (upTo L (lineIn one)) (headingLine r) (upTo L (lineIn two)) refl w in
         let m = few-slots ok in
-        up-parts L (lineOf one) (lineOf two) (λ _. lineLength)
+        up-parts L (lineIn one) (lineIn two) (λ _. lineLength)
         (λ q k. slot-long A (userOf s L one r q) q (users-few ok one r q) (omega arith))
         (λ q k. slot-long A (userOf s L two r q) q (users-few ok two r q) (omega arith))
         (v .1) slot′ l
@@ -81,22 +80,22 @@ module _ {s : Sheet} {L : ℕ} (ok : Accepted s L) (one two : Table) where
         let cf : ℕ → List ℕ = λ c. columnText A c (f c) in
         let cg : ℕ → List ℕ = λ c. columnText A c (g c) in
         let w = sym (slot-parts A f slot′) ∙ line-same (omega arith) e slot′ l ∙ slot-parts A g slot′ in
-        let v = split-equal (right 4 (digits slot′)) (upTo mostInstances cf ++ lineFeed) (right 4 (digits slot′)) (upTo mostInstances cg ++ lineFeed) refl w in
+        let v = split-equal (right slotWidth (digits slot′)) (upTo mostInstances cf ++ lineFeed) (right slotWidth (digits slot′)) (upTo mostInstances cg ++ lineFeed) refl w in
         let n = columns-wide A f p mostInstances (omega arith) ∙ sym (columns-wide A g q mostInstances (omega arith)) in
         let u = split-equal (upTo mostInstances cf) lineFeed (upTo mostInstances cg) lineFeed n (v .1) in
         let x = p a m in
         let y = q a m in
         column-tells A a (f a) (g a) k (omega arith) (omega arith)
-        (up-parts mostInstances cf cg (λ _. 5) (λ c h. column-wide A c (f c) (omega (arith, p c h))) (λ c h. column-wide A c (g c) (omega (arith, q c h))) (u .0) a m)
+        (up-parts mostInstances cf cg (λ _. columnWidth) (λ c h. column-wide A c (f c) (omega (arith, p c h))) (λ c h. column-wide A c (g c) (omega (arith, q c h))) (u .0) a m)
 
 -- ---- the page of a plan shows each limited operation
 
 -- an operation of the type `resource`, placed as p, uses the instance a of type r in the slot
-pub record Uses (L resource : ℕ) (p : Placement) (r slot′ a : ℕ) : Type 0 where
-  pub placed : p .placed ≡ true
-  pub oneType : resource ≡ r
-  pub inSlot : slot L (p .start) ≡ slot′
-  pub instance : p .instance ≡ a
+record Uses (L resource : ℕ) (p : Placement) (r slot′ a : ℕ) : Type 0 where
+  placed : p .placed ≡ true
+  oneType : resource ≡ r
+  inSlot : slot L (p .start) ≡ slot′
+  instance : p .instance ≡ a
 
 uses-read : (L resource : ℕ) (p : Placement) (r slot′ a : ℕ) → uses L resource p r slot′ a ≡ true → Uses L resource p r slot′ a
 uses-read L resource p r slot′ a e =
@@ -112,7 +111,7 @@ uses-show L resource p r slot′ a h =
     (both-show (eqb resource r) (eqb (slot L (p .start)) slot′) (eq-eqb resource r (h .oneType)) (eq-eqb (slot L (p .start)) slot′ (h .inSlot))))
     (eq-eqb (p .instance) a (h .instance))
 
-module _ {s : Sheet} {L : ℕ} (ok : Accepted s L) (ts us : List ℕ) (full : FullTable s L ts us) where
+module _ {s : Sheet} {L : ℕ} (ok : Accepted s L) (ts us : List ℕ) (full : Tabled s L ts us) where
   abbrev table : Table
   table = fullTable (s .«op_count») ts us
 

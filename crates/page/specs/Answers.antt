@@ -12,7 +12,7 @@ use Rattle.sheet.specs.declared.Sheet.{Sheet}
 use Rattle.sheet.specs.Questions.{Asked, Is, AtInterval}
 use Rattle.placing.specs.declared.Table.{Table}
 use Rattle.placing.specs.Table.{emptyTable, placing, Consistent}
-use Rattle.page_text.specs.Page.{pageText, pageLength}
+use Rattle.page_text.specs.Page.{pageText}
 
 -- the full table of a plan: each of n operations placed, in an empty table
 unfoldable pub fullTable : ℕ → List ℕ → List ℕ → Table
@@ -23,15 +23,20 @@ fullTable (suc n) ts us = placing (fullTable n ts us) n (vec ts n) (vec us n)
 abbrev pub planPage : Sheet → ℕ → List ℕ → List ℕ → List ℕ
 planPage s L ts us = pageText s L (fullTable (s .«op_count») ts us)
 
--- question 9: the buffer takes the page, whose length follows from the sheet and the interval alone
-abbrev pub Fits : Sheet → ℕ → List ℕ → Type 0
-Fits s L old = pageLength s L ≤ length old
+-- question 9: the buffer takes the whole page; its length follows from the sheet and the interval alone (a law), so it is
+-- asked before 10
+abbrev pub Fits : Sheet → ℕ → List ℕ → List ℕ → List ℕ → Type 0
+Fits s L ts us old = length (planPage s L ts us) ≤ length old
 
 -- question 10 of a plan as a full table: one start and one instance per operation, and the table is consistent
-pub record FullTable (s : Sheet) (L : ℕ) (ts us : List ℕ) : Type 0 where
+pub record Tabled (s : Sheet) (L : ℕ) (ts us : List ℕ) : Type 0 where
   pub starts : length ts ≡ s .«op_count»
   pub instances : length us ≡ s .«op_count»
   pub consistent : Consistent s L (fullTable (s .«op_count») ts us)
+
+-- that question, then the rest; `refused` makes an answer of a refusal's number
+abbrev pub IfTabled : {A : Type 0} → (ℕ → A) → Sheet → ℕ → List ℕ → List ℕ → (A → Type 0) → A → Type 0
+IfTabled refused s L ts us Then = Asked (Tabled s L ts us) (Is (refused 10)) Then
 
 -- the answer with its count of bytes, and the buffer
 pub record PageAnswer : Type 0 where
@@ -50,6 +55,6 @@ printed text old = record { written = record { answer = 0; count = length text }
 abbrev pub PageAt : Sheet → ℕ → List ℕ → List ℕ → List ℕ → PageAnswer → Type 0
 PageAt s L ts us old =
     AtInterval (pageRefused old) s L
-    (Asked (Fits s L old) (Is (pageRefused old 9))
-    (Asked (FullTable s L ts us) (Is (pageRefused old 10))
+    (Asked (Fits s L ts us old) (Is (pageRefused old 9))
+    (IfTabled (pageRefused old) s L ts us
     (Is (printed (planPage s L ts us) old))))

@@ -3,22 +3,21 @@ use Prim.Native.Nat.{ℕ, zero, suc, _≤_, _<_}
 use native.Mathlib.Omega.{arith}
 use mathlib.Core.Path.{_≡_, refl, sym, ap, ap₂, subst, _∙_}
 use mathlib.Core.Bool.{Bool, cond}
-use mathlib.Core.List.{List, []}
+use mathlib.Core.List.{List}
 use lib.ListN.{length}
 use Rattle.sheet.specs.declared.Sheet.{Sheet}
 use Rattle.sheet.specs.declared.Operation.{Operation}
 use Rattle.sheet.specs.declared.ResourceType.{ResourceType}
-use Rattle.sheet.specs.Sheet.{InRange, Interval, typeAt, opAt}
-use Rattle.sheet.specs.Questions.{Asked, at-no, at-yes, Is, Accepted}
-use Rattle.sheet.specs.Entries.{SameSheet, turn, range-same, interval-same, at-interval-same}
+use Rattle.sheet.specs.Sheet.{InRange, Interval, opAt}
+use Rattle.sheet.specs.Questions.{Asked, at-no, at-yes, Is}
+use Rattle.sheet.specs.Entries.{SameSheet, turn, range-same, at-interval-same}
 use Rattle.placing.specs.declared.Table.{Table}
 use Rattle.placing.specs.Table.{placementAt, Consistent}
 use Rattle.placing.specs.SameEntries.{consistent-same}
-use Rattle.page_text.specs.Columns.{upTo}
-use Rattle.page_text.specs.Page.{typeLines, uses, lastOf, userOf, pageText, pageLength}
+use Rattle.page_text.specs.Page.{typeLines, uses, lastOf, userOf, typeText, pageText}
 use Rattle.page_text.specs.Joining.{up-same}
-use Rattle.page_text.specs.Widths.{linesTo, page-lines, page-long}
-use Rattle.page.specs.Answers.{fullTable, planPage, Fits, FullTable, PageAnswer, pageRefused, printed, PageAt}
+use Rattle.page_text.specs.Widths.{linesTo, page-lines}
+use Rattle.page.specs.Answers.{fullTable, planPage, Fits, Tabled, IfTabled, PageAnswer, pageRefused, printed, PageAt}
 
 last-same : (n : ℕ) (f g : ℕ → Bool) → ((i : ℕ) → i < n → f i ≡ g i) → lastOf n f ≡ lastOf n g
 unfolding lastOf
@@ -38,18 +37,15 @@ module _ {s s' : Sheet} (e : SameSheet s s') (L : ℕ) where
   text-same : (table : Table) → pageText s L table ≡ pageText s' L table
   text-same table =
       page-lines s L table
-      ∙ up-same (s .«type_count») (λ r. typeLines L (typeAt s r .instances) (userOf s L table r) r) (λ r. typeLines L (typeAt s' r .instances) (userOf s' L table r) r)
+      ∙ up-same (s .«type_count») (typeText s L table) (typeText s' L table)
       (λ r h. ap₂ (λ (A : ℕ) (user : ℕ → ℕ → ℕ). typeLines L A user r) (ap (λ (t : ResourceType). t .instances) (e .eachType r h)) (users-same table r))
       ∙ ap (linesTo s' L table) (e .typeCount) ∙ sym (page-lines s' L table)
 
   plan-page-same : (ts us : List ℕ) → planPage s L ts us ≡ planPage s' L ts us
   plan-page-same ts us = ap (λ (n : ℕ). pageText s L (fullTable n ts us)) (e .opCount) ∙ text-same (fullTable (s' .«op_count») ts us)
 
-  length-same : Accepted s L → Accepted s' L → pageLength s L ≡ pageLength s' L
-  length-same y z = sym (page-long y (fullTable 0 [] [])) ∙ ap length (text-same (fullTable 0 [] [])) ∙ page-long z (fullTable 0 [] [])
-
-  full-table-same : InRange s → {ts us : List ℕ} → FullTable s L ts us → FullTable s' L ts us
-  full-table-same ok {ts} {us} f = record {
+  tabled-same : InRange s → {ts us : List ℕ} → Tabled s L ts us → Tabled s' L ts us
+  tabled-same ok {ts} {us} f = record {
     starts = f .starts ∙ e .opCount;
     instances = f .instances ∙ e .opCount;
     consistent = subst (λ (n : ℕ). Consistent s' L (fullTable n ts us)) (e .opCount) (consistent-same e ok (f .consistent));
@@ -58,18 +54,15 @@ module _ {s s' : Sheet} (e : SameSheet s s') (L : ℕ) where
 pub page-same : {s s' : Sheet} → SameSheet s s' → {L : ℕ} {ts us old : List ℕ} {a : PageAnswer} → PageAt s L ts us old a → PageAt s' L ts us old a
 page-same {s} {s'} e {L} {ts} {us} {old} {a} = at-interval-same e (pageRefused old) at
   where
-    full : InRange s → Asked (FullTable s L ts us) (Is (pageRefused old 10)) (Is (printed (planPage s L ts us) old)) a
-        → Asked (FullTable s' L ts us) (Is (pageRefused old 10)) (Is (printed (planPage s' L ts us) old)) a
-    full ok (at-no n p) = at-no (λ f. n (full-table-same (turn e) L (range-same e ok) f)) p
-    full ok (at-yes f p) = at-yes (full-table-same e L ok f) (p ∙ ap (λ (text : List ℕ). printed text old) (plan-page-same e L ts us))
+    Within : List ℕ → Type 0
+    Within text = length text ≤ length old
 
-    at : InRange s → Interval s L → Asked (Fits s L old) (Is (pageRefused old 9)) (Asked (FullTable s L ts us) (Is (pageRefused old 10)) (Is (printed (planPage s L ts us) old))) a
-        → Asked (Fits s' L old) (Is (pageRefused old 9)) (Asked (FullTable s' L ts us) (Is (pageRefused old 10)) (Is (printed (planPage s' L ts us) old))) a
-    at ok i q =
-        let l = length-same e L (record { sheet = ok; interval = i }) (record { sheet = range-same e ok; interval = interval-same e i }) in
-        by l q
-      where
-        by : pageLength s L ≡ pageLength s' L → Asked (Fits s L old) (Is (pageRefused old 9)) (Asked (FullTable s L ts us) (Is (pageRefused old 10)) (Is (printed (planPage s L ts us) old))) a
-            → Asked (Fits s' L old) (Is (pageRefused old 9)) (Asked (FullTable s' L ts us) (Is (pageRefused old 10)) (Is (printed (planPage s' L ts us) old))) a
-        by l (at-no n p) = at-no (λ f. n (omega arith)) p
-        by l (at-yes f q) = at-yes (omega arith) (full ok q)
+    full : InRange s → IfTabled (pageRefused old) s L ts us (Is (printed (planPage s L ts us) old)) a
+        → IfTabled (pageRefused old) s' L ts us (Is (printed (planPage s' L ts us) old)) a
+    full ok (at-no n p) = at-no (λ f. n (tabled-same (turn e) L (range-same e ok) f)) p
+    full ok (at-yes f p) = at-yes (tabled-same e L ok f) (p ∙ ap (λ (text : List ℕ). printed text old) (plan-page-same e L ts us))
+
+    at : InRange s → Interval s L → Asked (Fits s L ts us old) (Is (pageRefused old 9)) (IfTabled (pageRefused old) s L ts us (Is (printed (planPage s L ts us) old))) a
+        → Asked (Fits s' L ts us old) (Is (pageRefused old 9)) (IfTabled (pageRefused old) s' L ts us (Is (printed (planPage s' L ts us) old))) a
+    at ok i (at-no n p) = at-no (λ f. n (subst Within (sym (plan-page-same e L ts us)) f)) p
+    at ok i (at-yes f q) = at-yes (subst Within (plan-page-same e L ts us) f) (full ok q)

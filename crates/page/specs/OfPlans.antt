@@ -5,10 +5,8 @@ use native.Mathlib.Omega.{arith}
 use native.Mathlib.Decide.{decLt}
 use mathlib.Core.Path.{_≡_, refl, sym, ap, subst, _∙_}
 use mathlib.Core.List.{List}
-use mathlib.Core.Bool.{true}
 use lib.ListN.{length, take}
 use lib.Seq.{length-take-le, getD-take}
-use Rattle.sizes.specs.Sizes.{mostOperations}
 use Rattle.laws.specs.Entry.{vec}
 use Rattle.laws.specs.Z.{true-false}
 use Rattle.sheet.specs.declared.Sheet.{Sheet}
@@ -16,10 +14,9 @@ use Rattle.sheet.specs.Sheet.{InRange}
 use Rattle.sheet.specs.Facts.{ops-most}
 use Rattle.plan.specs.Rules.{Plan, Overlap}
 use Rattle.placing.specs.declared.Placement.{Placement}
-use Rattle.placing.specs.declared.Table.{Table}
 use Rattle.placing.specs.Table.{placementAt, Placed, EntryAllowed, Apart, Consistent}
 use Rattle.page_text.specs.Page.{pageText}
-use Rattle.page.specs.Answers.{fullTable, planPage, FullTable}
+use Rattle.page.specs.Answers.{fullTable, planPage, Tabled}
 use Rattle.page.specs.Tables.{placedAt, full-at, full-rest, full-same}
 
 module _ {s : Sheet} (ok : InRange s) (ts us : List ℕ) where
@@ -83,7 +80,7 @@ module _ (s : Sheet) (ts us : List ℕ) where
   pub cut-page : (L : ℕ) → planPage s L ts us ≡ planPage s L (take N ts) (take N us)
   cut-page L = ap (pageText s L) cut-table
 
-  pub plan-full : {L : ℕ} → InRange s → N ≤ length ts → N ≤ length us → Plan s L (vec ts) (vec us) → FullTable s L (take N ts) (take N us)
+  pub plan-full : {L : ℕ} → InRange s → N ≤ length ts → N ≤ length us → Plan s L (vec ts) (vec us) → Tabled s L (take N ts) (take N us)
   plan-full {L} ok a b p = record {
     starts = length-take-le N ts a;
     instances = length-take-le N us b;

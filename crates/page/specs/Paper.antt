@@ -3,7 +3,7 @@
 use Prim.Native.Nat.{ℕ, zero, suc, _+_, _/_, _%_, _≤_, _<_}
 use native.Mathlib.Omega.{arith}
 use native.Mathlib.Nat.{add-zero}
-use mathlib.Core.Path.{_≡_, refl, sym, ap, ap₂, subst, _∙_}
+use mathlib.Core.Path.{_≡_, refl, sym, ap, subst, _∙_}
 use mathlib.Core.List.{List, [], _∷_, _++_, append-assoc, append-nil}
 use mathlib.Core.Bool.{Bool, true, false, cond}
 use lib.Dec.{ltb}
@@ -19,14 +19,14 @@ use Rattle.sheet.specs.Facts.{types-most}
 use Rattle.sheet.specs.Questions.{Accepted}
 use Rattle.placing.specs.declared.Table.{Table}
 use Rattle.page_text.specs.Columns.{blanks, right, upTo, lineFeed}
-use Rattle.page_text.specs.Page.{typeWord, headingLine, userText, columnText, slotLine, typeLines, userOf, pageText, lineLength}
+use Rattle.page_text.specs.Page.{lineWidth, columnWidth, typeWord, headingLine, userText, columnText, slotLine, typeLines, userOf, typeText, pageText}
 use Rattle.page_text.specs.Digits.{hundredsByte, tensByte, onesByte, five-bytes, four-bytes, dash-bytes}
 use Rattle.page_text.specs.Users.{FewUsers}
-use Rattle.page_text.specs.Widths.{four-wide, columns-wide, heading-parts, heading-long, slot-parts, slot-long, users-few, few-slots, page-lines}
+use Rattle.page_text.specs.Widths.{lineLength, blockLines, lineCount, heading-parts, heading-long, slot-parts, slot-long, users-few, few-slots, page-lines}
 
 -- ---- what a line is
 
--- a character: a blank, a letter, a digit, a dash; no line feed
+-- a character: a printable byte, so no line feed
 pub record Character (b : ℕ) : Type 0 where
   pub low : 32 ≤ b
   pub high : b ≤ 126
@@ -36,11 +36,11 @@ pub data Characters : List ℕ → Type 0 where
   none : Characters []
   more : {b : ℕ} {bs : List ℕ} → Character b → Characters bs → Characters (b ∷ bs)
 
--- 44 characters and a line feed
+-- as many characters as a line is wide, 44, and a line feed
 pub record PaperLine (line : List ℕ) : Type 0 where
   pub front : List ℕ
   pub characters : Characters front
-  pub width : length front ≡ 44
+  pub width : length front ≡ lineWidth
   pub whole : line ≡ front ++ lineFeed
 
 -- n such lines
@@ -95,9 +95,9 @@ column-is : (A a user : ℕ) → user ≤ threeDigits → Characters (columnText
 unfolding columnText
 column-is A a user h = at (ltb a A)
   where
-    at : (b : Bool) → Characters (cond b (userText user) (blanks 5))
+    at : (b : Bool) → Characters (cond b (userText user) (blanks columnWidth))
     at true = user-is user h
-    at false = all-blank 5
+    at false = all-blank columnWidth
 
 up-is : (n : ℕ) (f : ℕ → List ℕ) → ((i : ℕ) → i < n → Characters (f i)) → Characters (upTo n f)
 unfolding upTo
@@ -118,7 +118,7 @@ line-of {line} {front} c e n = record {
 heading-is : (r : ℕ) → r ≤ threeDigits → PaperLine (headingLine r)
 heading-is r h =
     line-of (characters-then word (characters-then (five-is r h) (all-blank 35)))
-    (heading-parts r ∙ ap (λ (x : List ℕ). typeWord ++ x) (sym (append-assoc (right 5 (digits r)) (blanks 35) lineFeed)) ∙ sym (append-assoc typeWord (right 5 (digits r) ++ blanks 35) lineFeed))
+    (heading-parts r h ∙ ap (λ (x : List ℕ). typeWord ++ x) (sym (append-assoc (right 5 (digits r)) (blanks 35) lineFeed)) ∙ sym (append-assoc typeWord (right 5 (digits r) ++ blanks 35) lineFeed))
     (heading-long r h)
   where
     letter : (b : ℕ) → 97 ≤ b → b ≤ 122 → Character b
@@ -155,17 +155,14 @@ unfolding upTo total
 all-lines zero f w h = no-line
 all-lines (suc n) f w h = lines-then (all-lines n f w (λ i l. h i (omega arith))) (h n (omega arith))
 
--- a heading and L slots, or nothing
-abbrev pub lineCount : ℕ → ℕ → ℕ
-lineCount L A = cond (ltb 0 A) (1 + L) 0
-
 type-is : (L A : ℕ) (user : ℕ → ℕ → ℕ) (r : ℕ) → ((slot′ : ℕ) → FewUsers (user slot′)) → L ≤ threeDigits → r ≤ threeDigits → PaperLines (lineCount L A) (typeLines L A user r)
 unfolding typeLines
 type-is L A user r few l h = at (ltb 0 A)
   where
-    at : (b : Bool) → PaperLines (cond b (1 + L) 0) (cond b (headingLine r ++ upTo L (λ slot′. slotLine A (user slot′) slot′)) [])
+    at : (b : Bool) → PaperLines (cond b (blockLines L) 0) (cond b (headingLine r ++ upTo L (λ slot′. slotLine A (user slot′) slot′)) [])
     at true =
-        lines-then (one-line (heading-is r h)) (each-line L (λ slot′. slotLine A (user slot′) slot′) (λ slot′ k. slot-is A (user slot′) slot′ (few slot′) (omega arith)))
+        subst (λ (n : ℕ). PaperLines n (headingLine r ++ upTo L (λ slot′. slotLine A (user slot′) slot′))) (omega arith)
+        (lines-then (one-line (heading-is r h)) (each-line L (λ slot′. slotLine A (user slot′) slot′) (λ slot′ k. slot-is A (user slot′) slot′ (few slot′) (omega arith))))
     at false = no-line
 
 -- the page of any table of an accepted sheet and interval
@@ -175,5 +172,5 @@ page-paper {s} {L} y table =
     let few = few-slots y in
     let w : ℕ → ℕ = λ r. lineCount L (typeAt s r .instances) in
     subst (PaperLines (total (s .«type_count») w)) (sym (page-lines s L table))
-    (all-lines (s .«type_count») (λ r. typeLines L (typeAt s r .instances) (userOf s L table r) r) w
+    (all-lines (s .«type_count») (typeText s L table) w
     (λ r l. type-is L (typeAt s r .instances) (userOf s L table r) r (λ slot′. users-few y table r slot′) (omega arith) (omega arith)))

@@ -4,7 +4,7 @@ use Prim.Native.Nat.{ℕ, zero, suc, _+_, _≤_, _<_}
 use native.Mathlib.Omega.{arith}
 use native.Mathlib.Numerals.{add-one}
 use native.Mathlib.Decide.{ℕ-discrete, decLt}
-use mathlib.Core.Path.{_≡_, refl, sym, ap, _∙_}
+use mathlib.Core.Path.{_≡_, refl, _∙_}
 use mathlib.Core.List.{List}
 use mathlib.Core.Bool.{true}
 use lib.ListN.{length, getD, set, length-set, replicate, getD-replicate, List·getD-eq-default}
@@ -12,7 +12,6 @@ use lib.Seq.{getD-set-same, getD-set-other}
 use Rattle.sizes.specs.Sizes.{mostOperations}
 use Rattle.laws.specs.Entry.{vec}
 use Rattle.placing.specs.declared.Placement.{Placement}
-use Rattle.placing.specs.declared.Table.{Table}
 use Rattle.placing.specs.Table.{nothing, emptyTable, placementAt, placing}
 use Rattle.page.specs.Answers.{fullTable}
 
@@ -28,7 +27,7 @@ pub full-more : (n : ℕ) (ts us : List ℕ) → placing (fullTable n ts us) n (
 unfolding fullTable
 full-more n ts us = rw add-one
 
-pub full-size : (n : ℕ) (ts us : List ℕ) → length (fullTable n ts us .entries) ≡ mostOperations
+full-size : (n : ℕ) (ts us : List ℕ) → length (fullTable n ts us .entries) ≡ mostOperations
 unfolding fullTable
 full-size zero ts us = refl
 full-size (suc n) ts us = length-set (fullTable n ts us .entries) n (placedAt (vec ts n) (vec us n)) ∙ full-size n ts us

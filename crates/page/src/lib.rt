@@ -6,14 +6,17 @@ ghost use lib.ListN.{length};
 ghost use Rattle.sizes.specs.Sizes.{mostOperations};
 ghost use Rattle.text.specs.Line.{refused};
 ghost use Rattle.page.specs.Answers.{fullTable, PageAt};
+use page_text::LINE_LENGTH;
 use placing::Placement;
 use placing::Table;
 use sheet::Sheet;
+use sizes::MOST_INTERVALS;
 use sizes::MOST_OPERATIONS;
+use sizes::MOST_TYPES;
 use text::Written;
 
-// Room for any page: a heading and 64 slots for each of 8 types, 45 bytes each.
-pub const ROOM: usize = 23400;
+// Room for any page: for each type a heading and a line for each slot.
+pub const ROOM: usize = MOST_TYPES * (MOST_INTERVALS + 1) * LINE_LENGTH;
 
 // The placing table with each operation at its start on its instance.
 fn full_table(count: usize, starts: &[usize], instances: &[usize]) -> Table

@@ -1,27 +1,29 @@
 -- Laws of numbers of at most three digits in columns of four and five: their bytes, and that the bytes tell the number.
 -- Assumes nothing.
-use Prim.Native.Nat.{ℕ, zero, suc, _+_, _/_, _%_, _≤_, _<_}
+use Prim.Native.Nat.{ℕ, suc, _+_, _-_, _/_, _%_, _≤_, _<_}
 use native.Mathlib.Omega.{arith}
 use native.Mathlib.Decide.{decLt}
 use mathlib.Core.Path.{_≡_, refl, sym, ap, _∙_}
 use mathlib.Core.List.{List, [], _∷_, _++_}
 use mathlib.Core.Bool.{Bool, cond}
 use lib.Dec.{ltb}
-use lib.ListN.{length, getD}
+use lib.ListN.{length}
 use borrow.Author.Tests.{lt-ltb, le-ltb}
 use Rattle.laws.specs.Entry.{vec}
 use Rattle.text.specs.Sizes.{threeDigits}
 use Rattle.text.specs.Text.{digits}
-use Rattle.text.specs.Decimal.{one-digit, digits-more}
+use Rattle.text.specs.Decimal.{one-digit, digits-more, digits-most}
 use Rattle.page_text.specs.Columns.{right}
 
--- the three bytes of a number of at most three digits, with blanks for leading zeros
+-- the three bytes of a number of at most three digits, with blanks for leading zeros: the first,
 abbrev pub hundredsByte : ℕ → ℕ
 hundredsByte n = cond (ltb n 100) 32 (48 + n / 100)
 
+-- the second,
 abbrev pub tensByte : ℕ → ℕ
 tensByte n = cond (ltb n 10) 32 (48 + n / 10 % 10)
 
+-- and the third
 abbrev pub onesByte : ℕ → ℕ
 onesByte n = 48 + n % 10
 
@@ -44,15 +46,19 @@ five-bytes n h = at (decLt n 10) (decLt n 100)
     at (no a) (yes b) = let e : n / 10 % 10 ≡ n / 10 = omega arith in rw (two-digits n (omega arith) b, le-ltb n 10 (omega arith), lt-ltb n 100 b, e)
     at (no a) (no b) = rw (three-digits n (omega arith) h, le-ltb n 10 (omega arith), le-ltb n 100 (omega arith))
 
+-- one column more is one blank more
+right-more : (w : ℕ) (text : List ℕ) → length text ≤ w → right (suc w) text ≡ 32 ∷ right w text
+unfolding right
+right-more w text h = let e : suc w - length text ≡ suc (w - length text) = omega arith in rw e
+
+tailOf : List ℕ → List ℕ
+tailOf [] = []
+tailOf (x ∷ xs) = xs
+
 -- four columns are five without the first
 pub four-bytes : (n : ℕ) → n ≤ threeDigits → right 4 (digits n) ≡ 32 ∷ hundredsByte n ∷ tensByte n ∷ onesByte n ∷ []
-unfolding right
-four-bytes n h = at (decLt n 10) (decLt n 100)
-  where
-    at : Dec (n < 10) → Dec (n < 100) → right 4 (digits n) ≡ 32 ∷ hundredsByte n ∷ tensByte n ∷ onesByte n ∷ []
-    at (yes a) d = let e : n % 10 ≡ n = omega arith in rw (one-digit n a, lt-ltb n 10 a, lt-ltb n 100 (omega arith), e)
-    at (no a) (yes b) = let e : n / 10 % 10 ≡ n / 10 = omega arith in rw (two-digits n (omega arith) b, le-ltb n 10 (omega arith), lt-ltb n 100 b, e)
-    at (no a) (no b) = rw (three-digits n (omega arith) h, le-ltb n 10 (omega arith), le-ltb n 100 (omega arith))
+unfolding tailOf
+four-bytes n h = ap tailOf (sym (right-more 4 (digits n) (omega (arith, digits-most 2 n (omega arith)))) ∙ five-bytes n h)
 
 pub dash-bytes : right 5 (45 ∷ []) ≡ 32 ∷ 32 ∷ 32 ∷ 32 ∷ 45 ∷ []
 unfolding right

@@ -1,6 +1,6 @@
 -- Laws of texts one after the other: how long they are, and that equal ones have equal parts.
 -- Assumes nothing.
-use Prim.Native.Nat.{ℕ, zero, suc, _+_, _*_, _≤_, _<_}
+use Prim.Native.Nat.{ℕ, zero, suc, _+_, _*_, _<_}
 use native.Mathlib.Omega.{arith}
 use native.Mathlib.Numerals.{add-one}
 use native.Mathlib.Decide.{ℕ-discrete}
@@ -34,28 +34,6 @@ pub up-length : (n : ℕ) (f : ℕ → List ℕ) (w : ℕ) → ((i : ℕ) → i 
 unfolding upTo
 up-length zero f w h = omega arith
 up-length (suc n) f w h = length-append (upTo n f) (f n) ∙ omega (arith, up-length n f w (λ i l. h i (omega arith)), h n (omega arith))
-
-pub total-none : (w : ℕ → ℕ) → 0 ≡ total 0 w
-unfolding total
-total-none w = refl
-
-pub total-more : (n : ℕ) (w : ℕ → ℕ) → total (n + 1) w ≡ total n w + w n
-unfolding total
-total-more n w = rw add-one
-
-pub total-grows : (m n : ℕ) (w : ℕ → ℕ) → m ≤ n → total m w ≤ total n w
-unfolding total
-total-grows m zero w h = let e : m ≡ 0 = omega arith in omega (arith, ap (λ (k : ℕ). total k w) e)
-total-grows m (suc n) w h = at (ℕ-discrete m (suc n)) (λ l. total-grows m n w l)
-  where
-    at : Dec (m ≡ suc n) → (m ≤ n → total m w ≤ total n w) → total m w ≤ total n w + w n
-    at (yes e) ih = omega (arith, ap (λ (k : ℕ). total k w) e)
-    at (no ne) ih = omega (arith, ih (omega arith))
-
-pub total-most : (n : ℕ) (w : ℕ → ℕ) (most : ℕ) → ((i : ℕ) → w i ≤ most) → total n w ≤ n * most
-unfolding total
-total-most zero w most h = omega arith
-total-most (suc n) w most h = omega (arith, total-most n w most h, h n)
 
 -- ---- equal texts have equal parts
 

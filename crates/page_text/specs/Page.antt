@@ -1,11 +1,10 @@
 -- The page of a placing table (modulo reservation table), on paper 44 characters wide: the text, line by line, in the
 -- words of slip 3 of 02.
-use Prim.Native.Nat.{ℕ, zero, suc, _+_, _*_}
+use Prim.Native.Nat.{ℕ, zero, suc}
 use mathlib.Core.Bool.{Bool, false, cond}
 use mathlib.Core.List.{List, [], _∷_, _++_}
 use lib.Dec.{ltb, eqb}
 use Rattle.sizes.specs.Sizes.{mostInstances}
-use Rattle.laws.specs.Count.{total}
 use Rattle.text.specs.Text.{digits}
 use Rattle.sheet.specs.declared.Sheet.{Sheet}
 use Rattle.sheet.specs.Sheet.{typeAt, opAt}
@@ -13,9 +12,19 @@ use Rattle.plan.specs.Rules.{slot}
 use Rattle.placing.specs.declared.Placement.{Placement}
 use Rattle.placing.specs.declared.Table.{Table}
 use Rattle.placing.specs.Table.{placementAt}
-use Rattle.page_text.specs.Columns.{blanks, right, upTo, lineFeed}
+use Rattle.page_text.specs.Columns.{blanks, right, padded, upTo, lineFeed}
 
 -- ---- the lines; a user of an instance is 0 for no operation, i + 1 for operation i
+
+-- the widths of a line, of a column and of a slot's number
+abbrev pub lineWidth : ℕ
+lineWidth = 44
+
+abbrev pub columnWidth : ℕ
+columnWidth = 5
+
+abbrev pub slotWidth : ℕ
+slotWidth = 4
 
 -- the word `type`
 abbrev pub typeWord : List ℕ
@@ -23,20 +32,20 @@ typeWord = 116 ∷ 121 ∷ 112 ∷ 101 ∷ []
 
 -- a heading: the word, the type's number right-aligned in 5, and blanks
 unfoldable pub headingLine : ℕ → List ℕ
-headingLine r = typeWord ++ (right 5 (digits r) ++ (blanks 35 ++ lineFeed))
+headingLine r = padded lineWidth (typeWord ++ right columnWidth (digits r)) ++ lineFeed
 
 -- a column of an instance: the number of the operation that uses it, `-` where it is unused
 unfoldable pub userText : ℕ → List ℕ
-userText zero = right 5 (45 ∷ [])
-userText (suc i) = right 5 (digits i)
+userText zero = right columnWidth (45 ∷ [])
+userText (suc i) = right columnWidth (digits i)
 
 -- column a of a type with A instances: blanks where no such instance exists
 unfoldable pub columnText : ℕ → ℕ → ℕ → List ℕ
-columnText A a user = cond (ltb a A) (userText user) (blanks 5)
+columnText A a user = cond (ltb a A) (userText user) (blanks columnWidth)
 
 -- a slot: its number right-aligned in 4, then eight columns
 unfoldable pub slotLine : ℕ → (ℕ → ℕ) → ℕ → List ℕ
-slotLine A user slot′ = right 4 (digits slot′) ++ (upTo mostInstances (λ a. columnText A a (user a)) ++ lineFeed)
+slotLine A user slot′ = right slotWidth (digits slot′) ++ (upTo mostInstances (λ a. columnText A a (user a)) ++ lineFeed)
 
 -- type r with A instances at the interval L: a heading, then one line per slot from 0; nothing where it is unlimited
 unfoldable pub typeLines : ℕ → ℕ → (ℕ → ℕ → ℕ) → ℕ → List ℕ
@@ -64,18 +73,10 @@ userOf s L table r slot′ a = lastOf (s .«op_count») (λ i. uses L (opAt s i 
 
 -- ---- the whole
 
+-- the lines of type r
+abbrev pub typeText : Sheet → ℕ → Table → ℕ → List ℕ
+typeText s L table r = typeLines L (typeAt s r .instances) (userOf s L table r) r
+
 -- the lines of each type, by number
 unfoldable pub pageText : Sheet → ℕ → Table → List ℕ
-pageText s L table = upTo (s .«type_count») (λ r. typeLines L (typeAt s r .instances) (userOf s L table r) r)
-
--- a line has 44 characters and a line feed
-abbrev pub lineLength : ℕ
-lineLength = 45
-
--- the bytes of a type with A instances: a heading and L slots
-abbrev pub typeLength : ℕ → ℕ → ℕ
-typeLength L A = cond (ltb 0 A) ((L + 1) * lineLength) 0
-
--- the bytes of a page: they follow from the sheet and the interval alone
-abbrev pub pageLength : Sheet → ℕ → ℕ
-pageLength s L = total (s .«type_count») (λ r. typeLength L (typeAt s r .instances))
+pageText s L table = upTo (s .«type_count») (typeText s L table)

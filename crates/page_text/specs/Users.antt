@@ -8,7 +8,7 @@ use mathlib.Core.Path.{_≡_, refl, sym, ap, subst, _∙_}
 use mathlib.Core.Bool.{Bool, true, false, cond}
 use mathlib.Core.List.{List}
 use lib.Dec.{eqb, ltb}
-use lib.ListN.{length, getD, set, length-set, replicate}
+use lib.ListN.{length, set, length-set, replicate}
 use borrow.Author.Tests.{eq-eqb, ne-eqb, ltb-true, ltb-false}
 use Rattle.sizes.specs.Sizes.{mostOperations, mostInstances}
 use Rattle.laws.specs.Z.{true-false}
@@ -20,15 +20,15 @@ use Rattle.page_text.specs.Page.{lastOf}
 
 -- ---- the last that has a flag
 
-pub last-none : (flag : ℕ → Bool) → 0 ≡ lastOf 0 flag
+last-none : (flag : ℕ → Bool) → 0 ≡ lastOf 0 flag
 unfolding lastOf
 last-none flag = refl
 
-pub last-hit : (n : ℕ) (flag : ℕ → Bool) → flag n ≡ true → n + 1 ≡ lastOf (n + 1) flag
+last-hit : (n : ℕ) (flag : ℕ → Bool) → flag n ≡ true → n + 1 ≡ lastOf (n + 1) flag
 unfolding lastOf
 last-hit n flag e = rw (add-one, e)
 
-pub last-miss : (n : ℕ) (flag : ℕ → Bool) → flag n ≡ false → lastOf n flag ≡ lastOf (n + 1) flag
+last-miss : (n : ℕ) (flag : ℕ → Bool) → flag n ≡ false → lastOf n flag ≡ lastOf (n + 1) flag
 unfolding lastOf
 last-miss n flag e = rw (add-one, e)
 

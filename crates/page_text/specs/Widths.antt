@@ -1,5 +1,5 @@
--- The widths of the page: a column has 5 characters, a line 45 bytes, and so the length of the whole. And the lines as
--- the code writes them. Assumes nothing.
+-- The widths of the page: a column has 5 characters, a line 45 bytes, and so the length of the whole, which follows from
+-- the sheet and the interval alone. And the lines as the code writes them. Assumes nothing.
 use Prim.Native.Nat.{ℕ, zero, suc, _+_, _-_, _*_, _≤_, _<_}
 use native.Mathlib.Omega.{arith}
 use mathlib.Core.Path.{_≡_, refl, sym, ap, _∙_}
@@ -8,8 +8,8 @@ use mathlib.Core.Bool.{Bool, true, false, cond}
 use lib.Dec.{ltb}
 use lib.ListN.{length, length-append}
 use borrow.Author.Tests.{lt-ltb, le-ltb}
-use Rattle.sizes.specs.Sizes.{mostOperations, mostInstances, mostTypes, mostIntervals}
-use Rattle.laws.specs.Count.{total}
+use Rattle.sizes.specs.Sizes.{mostInstances, mostTypes, mostIntervals}
+use Rattle.laws.specs.Count.{total, total-most}
 use Rattle.text.specs.Sizes.{threeDigits}
 use Rattle.text.specs.Text.{digits}
 use Rattle.sheet.specs.declared.Sheet.{Sheet}
@@ -18,11 +18,37 @@ use Rattle.sheet.specs.Facts.{ops-most, types-most, cap-most}
 use Rattle.sheet.specs.Questions.{Accepted}
 use Rattle.placing.specs.declared.Table.{Table}
 use Rattle.placing.specs.Table.{placementAt}
-use Rattle.page_text.specs.Columns.{blanks, right, upTo, lineFeed}
-use Rattle.page_text.specs.Page.{typeWord, headingLine, userText, columnText, slotLine, typeLines, uses, userOf, pageText, lineLength, typeLength, pageLength}
+use Rattle.page_text.specs.Columns.{blanks, right, padded, upTo, lineFeed}
+use Rattle.page_text.specs.Page.{lineWidth, typeWord, headingLine, userText, columnText, slotLine, typeLines, uses, userOf, typeText, pageText}
 use Rattle.page_text.specs.Digits.{five-bytes, four-bytes, dash-bytes}
-use Rattle.page_text.specs.Joining.{up-length, up-same, up-total, total-most}
+use Rattle.page_text.specs.Joining.{up-length, up-same, up-total}
 use Rattle.page_text.specs.Users.{FewUsers, last-bound}
+
+-- ---- lengths, of which the laws below speak
+
+-- the bytes of a line: its characters and a line feed
+abbrev pub lineLength : ℕ
+lineLength = lineWidth + 1
+
+-- the lines of a limited type: a heading and L slots
+abbrev pub blockLines : ℕ → ℕ
+blockLines L = L + 1
+
+-- the lines of a type with A instances
+abbrev pub lineCount : ℕ → ℕ → ℕ
+lineCount L A = cond (ltb 0 A) (blockLines L) 0
+
+-- its bytes
+abbrev pub typeLength : ℕ → ℕ → ℕ
+typeLength L A = cond (ltb 0 A) (blockLines L * lineLength) 0
+
+-- the bytes of the first n types
+abbrev pub lengthTo : Sheet → ℕ → ℕ → ℕ
+lengthTo s L n = total n (λ r. typeLength L (typeAt s r .instances))
+
+-- the bytes of a page
+abbrev pub pageLength : Sheet → ℕ → ℕ
+pageLength s L = lengthTo s L (s .«type_count»)
 
 -- ---- columns
 
@@ -68,13 +94,12 @@ used A a (suc i) h n = let e : suc i - 1 ≡ i = omega arith in ap (λ (y : ℕ)
 
 -- ---- lines
 
-pub heading-parts : (r : ℕ) → headingLine r ≡ typeWord ++ (right 5 (digits r) ++ (blanks 35 ++ lineFeed))
-unfolding headingLine
-heading-parts r = refl
+pub heading-parts : (r : ℕ) → r ≤ threeDigits → headingLine r ≡ typeWord ++ (right 5 (digits r) ++ (blanks 35 ++ lineFeed))
+unfolding headingLine padded
+heading-parts r h = rw (five-bytes r h)
 
 pub heading-long : (r : ℕ) → r ≤ threeDigits → length (headingLine r) ≡ lineLength
-unfolding headingLine
-heading-long r h = rw (five-bytes r h)
+heading-long r h = ap length (heading-parts r h) ∙ rw (five-bytes r h)
 
 pub slot-parts : (A : ℕ) (f : ℕ → ℕ) (slot′ : ℕ) → slotLine A f slot′ ≡ right 4 (digits slot′) ++ (upTo mostInstances (λ a. columnText A a (f a)) ++ lineFeed)
 unfolding slotLine
@@ -108,24 +133,24 @@ module _ (L A : ℕ) (user : ℕ → ℕ → ℕ) (r : ℕ) where
   unlimited-lines e = ap (λ (b : Bool). cond b (headingLine r ++ upTo L (λ slot′. slotLine A (user slot′) slot′)) []) (le-ltb 0 A (omega arith))
 
 module _ (L A : ℕ) where
-  pub limited-length : 0 < A → typeLength L A ≡ (L + 1) * lineLength
-  limited-length h = ap (λ (b : Bool). cond b ((L + 1) * lineLength) 0) (lt-ltb 0 A h)
+  pub limited-length : 0 < A → typeLength L A ≡ blockLines L * lineLength
+  limited-length h = ap (λ (b : Bool). cond b (blockLines L * lineLength) 0) (lt-ltb 0 A h)
 
   pub unlimited-length : A ≡ 0 → typeLength L A ≡ 0
-  unlimited-length e = ap (λ (b : Bool). cond b ((L + 1) * lineLength) 0) (le-ltb 0 A (omega arith))
+  unlimited-length e = ap (λ (b : Bool). cond b (blockLines L * lineLength) 0) (le-ltb 0 A (omega arith))
 
-  type-most : typeLength L A ≤ (L + 1) * lineLength
+  type-most : typeLength L A ≤ blockLines L * lineLength
   type-most = at (ltb 0 A)
     where
-      at : (b : Bool) → cond b ((L + 1) * lineLength) 0 ≤ (L + 1) * lineLength
+      at : (b : Bool) → cond b (blockLines L * lineLength) 0 ≤ blockLines L * lineLength
       at true = omega arith
       at false = omega arith
 
-pub type-long : (L A : ℕ) (user : ℕ → ℕ → ℕ) (r : ℕ) → ((slot′ : ℕ) → FewUsers (user slot′)) → L ≤ threeDigits → r ≤ threeDigits → length (typeLines L A user r) ≡ typeLength L A
+type-long : (L A : ℕ) (user : ℕ → ℕ → ℕ) (r : ℕ) → ((slot′ : ℕ) → FewUsers (user slot′)) → L ≤ threeDigits → r ≤ threeDigits → length (typeLines L A user r) ≡ typeLength L A
 unfolding typeLines
 type-long L A user r few l h = at (ltb 0 A)
   where
-    at : (b : Bool) → length (cond b (headingLine r ++ upTo L (λ slot′. slotLine A (user slot′) slot′)) []) ≡ cond b ((L + 1) * lineLength) 0
+    at : (b : Bool) → length (cond b (headingLine r ++ upTo L (λ slot′. slotLine A (user slot′) slot′)) []) ≡ cond b (blockLines L * lineLength) 0
     at true =
         length-append (headingLine r) (upTo L (λ slot′. slotLine A (user slot′) slot′))
         ∙ omega (arith, heading-long r h, slots-long A user few L l)
@@ -142,19 +167,15 @@ few-slots y = omega (arith, y .interval .high, cap-most (y .sheet))
 
 -- the lines of the first n types
 abbrev pub linesTo : Sheet → ℕ → Table → ℕ → List ℕ
-linesTo s L table n = upTo n (λ r. typeLines L (typeAt s r .instances) (userOf s L table r) r)
+linesTo s L table n = upTo n (typeText s L table)
 
--- their length
-abbrev pub lengthTo : Sheet → ℕ → ℕ → ℕ
-lengthTo s L n = total n (λ r. typeLength L (typeAt s r .instances))
-
-pub type-of-long : {s : Sheet} {L : ℕ} → Accepted s L → (table : Table) (r : ℕ) → r ≤ mostTypes → length (typeLines L (typeAt s r .instances) (userOf s L table r) r) ≡ typeLength L (typeAt s r .instances)
+pub type-of-long : {s : Sheet} {L : ℕ} → Accepted s L → (table : Table) (r : ℕ) → r ≤ mostTypes → length (typeText s L table r) ≡ typeLength L (typeAt s r .instances)
 type-of-long {s} {L} y table r h =
     type-long L (typeAt s r .instances) (userOf s L table r) r (λ slot′. users-few y table r slot′) (omega (arith, few-slots y)) (omega arith)
 
 pub lines-long : {s : Sheet} {L : ℕ} → Accepted s L → (table : Table) (n : ℕ) → n ≤ mostTypes → length (linesTo s L table n) ≡ lengthTo s L n
 lines-long {s} {L} y table n h =
-    up-total n (λ r. typeLines L (typeAt s r .instances) (userOf s L table r) r) (λ r. typeLength L (typeAt s r .instances))
+    up-total n (typeText s L table) (λ r. typeLength L (typeAt s r .instances))
     (λ r l. type-of-long y table r (omega arith))
 
 pub page-lines : (s : Sheet) (L : ℕ) (table : Table) → pageText s L table ≡ linesTo s L table (s .«type_count»)
@@ -167,11 +188,11 @@ page-long {s} {L} y table = ap length (page-lines s L table) ∙ lines-long y ta
 
 -- the bytes of the longest page
 abbrev pub longestPage : ℕ
-longestPage = mostTypes * ((mostIntervals + 1) * lineLength)
+longestPage = mostTypes * (blockLines mostIntervals * lineLength)
 
 pub length-most : {s : Sheet} {L : ℕ} → Accepted s L → (n : ℕ) → n ≤ mostTypes → lengthTo s L n ≤ longestPage
 length-most {s} {L} y n h =
-    let t = total-most n (λ r. typeLength L (typeAt s r .instances)) ((mostIntervals + 1) * lineLength)
+    let t = total-most n (λ r. typeLength L (typeAt s r .instances)) (blockLines mostIntervals * lineLength)
     (λ r. omega (arith, type-most L (typeAt s r .instances), few-slots y)) in
     omega arith
 

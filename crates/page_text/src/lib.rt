@@ -11,9 +11,10 @@ ghost use Rattle.text.specs.Text.{over};
 ghost use Rattle.sheet.specs.Sheet.{typeAt};
 ghost use Rattle.sheet.specs.Questions.{Accepted};
 ghost use Rattle.page_text.specs.Columns.{upTo};
-ghost use Rattle.page_text.specs.Page.{headingLine, columnText, slotLine, typeLines, userOf, pageText, lineLength, typeLength, pageLength};
+ghost use Rattle.page_text.specs.Page.{headingLine, columnText, slotLine, userOf, typeText, pageText};
 ghost use Rattle.page_text.specs.Pasting.{Pasted};
 ghost use Rattle.page_text.specs.Users.{FewUsers};
+ghost use Rattle.page_text.specs.Widths.{lineLength, typeLength, pageLength};
 use placing::Table;
 use sheet::Sheet;
 use sizes::MOST_INSTANCES;
@@ -23,7 +24,7 @@ mod columns; // columns.rt: text in columns
 mod users; // users.rt: who uses an instance
 
 // The bytes of a line: 44 characters and a line feed.
-const LINE_LENGTH: usize = 45;
+pub const LINE_LENGTH: usize = 45;
 
 // How many bytes the lines of a type with `limit` instances have.
 fn type_length(interval: usize, limit: usize) -> usize
@@ -127,7 +128,7 @@ fn put_type(
     r: usize,
 ) -> usize
     requires { ⌜ Accepted sheet interval × (r < mostTypes) × (at + typeLength interval (typeAt sheet r .instances) ≤ length (now out)) ⌝ }
-    ensures { λ x. ⌜ Pasted at (typeLines interval (typeAt sheet r .instances) (userOf sheet interval table r) r) (now (out .entry)) (now (out .exit)) x ⌝ }
+    ensures { λ x. ⌜ Pasted at (typeText sheet interval table r) (now (out .entry)) (now (out .exit)) x ⌝ }
 {
     let kind = sheet.types[r];
     let limit = kind.instances;

@@ -15,20 +15,20 @@ use Rattle.plan_lines.specs.declared.PlanLines.{PlanLines}
 -- ---- the bytes
 
 -- the interval, the starts and the instances that a plan's lines name; or that the bytes are no such lines
-pub data Given : Type 0 where
-  given : ℕ → List ℕ → List ℕ → Given
-  malformed : Given
+pub data PlanRead : Type 0 where
+  given : ℕ → List ℕ → List ℕ → PlanRead
+  malformed : PlanRead
 
 -- the number at a place of a line in which none carries a minus
 abbrev pub numberAt : List ℤ → ℕ → ℕ
 numberAt vs i = natAbs (getD vs i (pos 0))
 
 -- f of the number of the line with this key and one number, and of what follows the line
-abbrev pub onNumber : List ℕ → List ℕ → (ℕ → List ℕ → Given) → Given
-onNumber key bs f = onFields (lineOf key 1 noMinus bs) (λ vs rest. f (numberAt vs 0) rest) malformed
+abbrev pub onOne : List ℕ → List ℕ → (ℕ → List ℕ → PlanRead) → PlanRead
+onOne key bs f = onFields (lineOf key 1 noMinus bs) (λ vs rest. f (numberAt vs 0) rest) malformed
 
 -- at most k lines `at=t,u` more, to the end of the bytes, after the interval L, the starts ts and the instances us
-unfoldable pub placesFrom : ℕ → ℕ → List ℕ → List ℕ → List ℕ → Given
+unfoldable pub placesFrom : ℕ → ℕ → List ℕ → List ℕ → List ℕ → PlanRead
 placesFrom zero L ts us [] = given L ts us
 placesFrom zero L ts us (b ∷ bs) = malformed
 placesFrom (suc k) L ts us [] = given L ts us
@@ -38,19 +38,19 @@ placesFrom (suc k) L ts us (b ∷ bs) =
     malformed
 
 -- the whole: `answer=0`, `interval=N`, then lines `at=t,u`
-unfoldable pub planOf : List ℕ → Given
+unfoldable pub planOf : List ℕ → PlanRead
 planOf bs =
-    onNumber answerKey bs (λ answer bs.
-    cond (eqb answer 0) (onNumber intervalKey bs (λ L bs. placesFrom mostOperations L [] [] bs)) malformed)
+    onOne answerKey bs (λ answer bs.
+    cond (eqb answer 0) (onOne intervalKey bs (λ L bs. placesFrom mostOperations L [] [] bs)) malformed)
 
 -- ---- the struct
 
 -- the plan that it holds
-abbrev pub held : PlanLines → Given
+abbrev pub held : PlanLines → PlanRead
 held r = given (r .interval) (take (r .count) (r .starts)) (take (r .count) (r .instances))
 
 -- that, or that the bytes are no such lines
-unfoldable pub seen : PlanLines → Given
+unfoldable pub seen : PlanLines → PlanRead
 seen r = cond (r .ok) (held r) malformed
 
 -- everything 0

@@ -20,7 +20,7 @@ use Rattle.scan.specs.RoundTrip.{Writable, reads-line, line-text}
 use Rattle.plan_lines.specs.Lines.{given, placesFrom, planOf}
 use Rattle.plan_lines.specs.Steps.{no-plan, places-end, places-over, places-bad, places-more}
 use Rattle.plan_lines.specs.Steps.{no-answer, another-answer, no-interval, places}
-use Rattle.plan_lines.specs.Text.{atLines, planLines, Small, Printable}
+use Rattle.plan_lines.specs.Text.{atLines, linesFor, Small, Showable}
 
 -- ---- what is printed reads back
 
@@ -40,7 +40,7 @@ reads-places (suc k) L ts us (p ∷ ps) (q ∷ qs) e h a b =
     ∙ ap₂ (given L) (append-assoc ts (p ∷ []) ps) (append-assoc us (q ∷ []) qs)
 
 -- the lines that leastplan prints for a plan read as that plan
-pub reads-back : (L : ℕ) (ts us : List ℕ) → Printable L ts us → planOf (linesText (planLines L ts us)) ≡ given L ts us
+pub reads-back : (L : ℕ) (ts us : List ℕ) → Showable L ts us → planOf (linesText (linesFor L ts us)) ≡ given L ts us
 unfolding linesText
 reads-back L ts us w =
     let rest = linesText (countLine intervalKey L ∷ atLines ts us) in
@@ -142,7 +142,7 @@ module _ {L : ℕ} {bs : List ℕ} {L′ : ℕ} {ts us : List ℕ} (r : Spelled 
   at-text : bs ≡ linesText (atLines ts us)
   at-text = r .text ∙ sym (ap₂ (λ (x y : List ℕ). linesText (atLines x y)) (r .starts) (r .instances))
 
-  printable : L ≤ fourDigits → Printable L′ ts us
+  printable : L ≤ fourDigits → Showable L′ ts us
   printable h = record {
     paired = ap length (r .instances) ∙ r .paired ∙ sym (ap length (r .starts));
     few = omega (arith, r .few, ap length (r .starts));
@@ -155,7 +155,7 @@ module _ (bs : List ℕ) (L : ℕ) (ts us : List ℕ) (plan : planOf bs ≡ give
   -- the line `interval=` and the rest, at its case, after the answer 0
   interval-at : (b₁ : List ℕ) (n : Fields) → lineOf answerKey 1 noMinus bs ≡ fields (pos 0 ∷ []) b₁
       → lineOf intervalKey 1 noMinus b₁ ≡ n
-      → (b₁ ≡ linesText (countLine intervalKey L ∷ atLines ts us)) × Printable L ts us
+      → (b₁ ≡ linesText (countLine intervalKey L ∷ atLines ts us)) × Showable L ts us
   unfolding linesText
   interval-at b₁ bad e₁ e = absurd (no-plan (sym plan ∙ no-interval bs 0 b₁ e₁ refl e))
   interval-at b₁ (fields vs b₂) e₁ e =
@@ -172,7 +172,7 @@ module _ (bs : List ℕ) (L : ℕ) (ts us : List ℕ) (plan : planOf bs ≡ give
       (λ t. absurd (no-plan (sym plan ∙ another-answer bs a b₁ e (eqb-false a 0 t))))
 
   answer-at : (n : Fields) → lineOf answerKey 1 noMinus bs ≡ n
-      → (bs ≡ linesText (planLines L ts us)) × Printable L ts us
+      → (bs ≡ linesText (linesFor L ts us)) × Showable L ts us
   unfolding linesText
   answer-at bad e = absurd (no-plan (sym plan ∙ no-answer bs e))
   answer-at (fields vs b₁) e =
@@ -184,5 +184,5 @@ module _ (bs : List ℕ) (L : ℕ) (ts us : List ℕ) (plan : planOf bs ≡ give
       (l .text ∙ (λ i. lineText answerKey (q i) ++ r .0 i), r .1)
 
   -- bytes that read as a plan are the lines that leastplan prints for it, which can show it
-  pub plan-text : (bs ≡ linesText (planLines L ts us)) × Printable L ts us
+  pub plan-text : (bs ≡ linesText (linesFor L ts us)) × Showable L ts us
   plan-text = answer-at (lineOf answerKey 1 noMinus bs) refl

@@ -18,7 +18,7 @@ use Rattle.text.specs.Keys.{answerKey, intervalKey, atKey}
 use Rattle.scan.specs.Line.{fields, bad, noMinus, lineOf}
 use Rattle.plan_lines.specs.declared.Numbers.{Numbers}
 use Rattle.plan_lines.specs.declared.PlanLines.{PlanLines}
-use Rattle.plan_lines.specs.Lines.{Given, given, malformed, placesFrom, planOf, seen, noLines, LinesFit}
+use Rattle.plan_lines.specs.Lines.{PlanRead, given, malformed, placesFrom, planOf, seen, noLines, LinesFit}
 use Rattle.plan_lines.specs.Numbers.{NumbersAt, is-line, is-bad}
 
 pub no-plan : {L : ℕ} {ts us : List ℕ} → given L ts us ≡ malformed → ⊥
@@ -75,7 +75,7 @@ module _ (bs : List ℕ) where
 -- ---- what the code gives
 
 -- what the contracts say of a result, where want is what the bytes are
-abbrev pub Gives : Given → PlanLines → Type 0
+abbrev pub Gives : PlanRead → PlanLines → Type 0
 Gives want r = (seen r ≡ want) × LinesFit r
 
 no-entries : ZeroFrom 0 zeros
@@ -85,18 +85,18 @@ none-fit : LinesFit noLines
 none-fit = record { few = omega arith; starts = no-entries; instances = no-entries; refused = λ _. refl }
 
 -- bytes that are no such lines
-pub none : {want : Given} {r : PlanLines} → r ≡ noLines → want ≡ malformed → Gives want r
+pub none : {want : PlanRead} {r : PlanLines} → r ≡ noLines → want ≡ malformed → Gives want r
 unfolding seen
 none e w = (ap seen e ∙ sym w, subst LinesFit (sym e) none-fit)
 
 -- ---- the loop
 
 -- what is still to be read, from the place p on, where i lines were read
-abbrev ahead : List ℕ → ℕ → List ℕ → List ℕ → ℕ → ℕ → Given
+abbrev ahead : List ℕ → ℕ → List ℕ → List ℕ → ℕ → ℕ → PlanRead
 ahead s L ts us p i = placesFrom (mostOperations - i) L (take i ts) (take i us) (drop p s)
 
 -- what holds before the line i: the numbers so far are in the arrays, and what is still to be read is the rest of want
-pub record Turn (s : List ℕ) (L : ℕ) (want : Given) (ts us : List ℕ) (p i : ℕ) : Type 0 where
+pub record Turn (s : List ℕ) (L : ℕ) (want : PlanRead) (ts us : List ℕ) (p i : ℕ) : Type 0 where
   pub few : i ≤ mostOperations
   pub starts : ZeroFrom i ts
   pub instances : ZeroFrom i us
@@ -116,7 +116,7 @@ front-more : {i : ℕ} {xs : List ℕ} (v : ℕ) → ZeroFrom i xs → i < mostO
     → take (i + 1) (set xs i v) ≡ take i xs ++ (v ∷ [])
 front-more {i} {xs} v z h = rw add-one (take-suc-set xs i v (omega (arith, z .whole)))
 
-module _ {s : List ℕ} {L : ℕ} {want : Given} {ts us : List ℕ} {p i : ℕ} (t : Turn s L want ts us p i) where
+module _ {s : List ℕ} {L : ℕ} {want : PlanRead} {ts us : List ℕ} {p i : ℕ} (t : Turn s L want ts us p i) where
   module _ (h : p < length s) where
     some : 0 < length (drop p s)
     some = omega (arith, length-drop p s)

@@ -21,15 +21,15 @@ atLines (t ∷ ts) [] = []
 atLines (t ∷ ts) (u ∷ us) = atLine t u ∷ atLines ts us
 
 -- the lines of a plan
-abbrev pub planLines : ℕ → List ℕ → List ℕ → List Line
-planLines L ts us = countLine answerKey 0 ∷ countLine intervalKey L ∷ atLines ts us
+abbrev pub linesFor : ℕ → List ℕ → List ℕ → List Line
+linesFor L ts us = countLine answerKey 0 ∷ countLine intervalKey L ∷ atLines ts us
 
 -- each number has at most four digits
 abbrev pub Small : List ℕ → Type 0
 Small xs = (i : ℕ) → vec xs i ≤ fourDigits
 
 -- a plan that such lines can show: an instance for each start, at most 24 of them, no number of more than four digits
-pub record Printable (L : ℕ) (ts us : List ℕ) : Type 0 where
+pub record Showable (L : ℕ) (ts us : List ℕ) : Type 0 where
   pub paired : length us ≡ length ts
   pub few : length ts ≤ mostOperations
   pub interval : L ≤ fourDigits

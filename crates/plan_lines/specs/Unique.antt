@@ -10,12 +10,12 @@ use lib.Seq.{getD-take, length-take-le}
 use Rattle.sizes.specs.Sizes.{mostOperations}
 use Rattle.laws.specs.Entry.{vec, ZeroFrom, zero-one}
 use Rattle.plan_lines.specs.declared.PlanLines.{PlanLines}
-use Rattle.plan_lines.specs.Lines.{Given, malformed, planOf, held, seen, LinesFit}
+use Rattle.plan_lines.specs.Lines.{PlanRead, malformed, planOf, held, seen, LinesFit}
 use Rattle.plan_lines.specs.Steps.{no-plan}
 
 -- ---- what a caller has
 
-module _ (r : PlanLines) {want : Given} (e : seen r ≡ want) where
+module _ (r : PlanLines) {want : PlanRead} (e : seen r ≡ want) where
   pub is-plan : r .ok ≡ true → want ≡ held r
   unfolding seen
   is-plan t = sym e ∙ rw t
@@ -47,7 +47,7 @@ module _ (r q : PlanLines) (f : LinesFit r) (g : LinesFit q) where
       λ i. record { ok = k i; interval = l i; count = n i; starts = v i; instances = w i }
 
 -- the two flags, at their cases
-module _ (r q : PlanLines) {w : Given} (d : seen r ≡ w) (e : seen q ≡ w) (f : LinesFit r) (g : LinesFit q) where
+module _ (r q : PlanLines) {w : PlanRead} (d : seen r ≡ w) (e : seen q ≡ w) (f : LinesFit r) (g : LinesFit q) where
   one : (a b : Bool) → r .ok ≡ a → q .ok ≡ b → r ≡ q
   one true true x y = same-held r q f g (x ∙ sym y) (sym (is-plan r d x) ∙ is-plan q e y)
   one true false x y = absurd (no-plan (sym (is-plan r d x) ∙ is-none q e y))

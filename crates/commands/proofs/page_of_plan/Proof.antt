@@ -1,6 +1,6 @@
 -- `commands::page_of_plan` meets its contract.
 -- From what `read`, `alone`, `put` and `given` ensure.
-use mathlib.Core.Path.{_≡_, sym, ap, subst, _∙_}
+use mathlib.Core.Path.{sym, ap, subst, _∙_}
 use Rattle.sheet.specs.declared.Sheet.{Sheet}
 use Rattle.sheet.specs.Sheet.{InRange}
 use Rattle.sheet.specs.Questions.{at-no, at-yes}
@@ -8,7 +8,7 @@ use Rattle.reader.specs.declared.ReadAnswer.{ReadAnswer}
 use Rattle.report.specs.Reading.{read-small, read-in-range}
 use Rattle.commands.specs.Shows.{lists}
 use Rattle.commands.specs.Answers.{put, weaken}
-use Rattle.commands.specs.Prints.{refusalText, PageOf}
+use Rattle.commands.specs.Prints.{refusalText, ServesPage}
 use native.Mathlib.Omega.{arith}
 use borrow.Author.Needs.{needs}
 use Rattle.commands.proofs.page_of_plan.Statement.{statement}
@@ -50,7 +50,7 @@ returns-2 c =
     let a = c .before .before .before .before .before .before .before .before .before .before .before .args in
     let e = ap (λ (x : ReadAnswer). x .answer) (r .ensures) in
     let g = ap (λ (x : ReadAnswer). x .sheet) (r .ensures) in
-    weaken (λ t p. at-yes (sym e ∙ c .before .before .before .before .before .if1 .left) (subst (λ (x : Sheet). PageOf x (a .interval) (a .starts .now) (a .instances .now) t) g p)) (c .before .before .given .ensures)
+    weaken (λ t p. at-yes (sym e ∙ c .before .before .before .before .before .if1 .left) (subst (λ (x : Sheet). ServesPage x (a .interval) (a .starts .now) (a .instances .now) t) g p)) (c .before .before .given .ensures)
 
 pub page-of-plan-spec : {M : Type 1} → statement M
 page-of-plan-spec =

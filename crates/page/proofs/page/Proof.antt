@@ -1,7 +1,7 @@
 -- `page::page` meets its contract.
 -- From what `asked`, `page_length`, `full_table`, `consistent` and `put_page` ensure, question by question.
 use native.Mathlib.Omega.{arith}
-use mathlib.Core.Path.{_≡_, sym, ap, subst, _∙_}
+use mathlib.Core.Path.{sym, ap, subst, _∙_}
 use lib.ListN.{length}
 use Rattle.laws.specs.Tests.{denied, passed}
 use Rattle.text.specs.Text.{over}
@@ -10,7 +10,7 @@ use Rattle.sheet.specs.Questions.{accepted}
 use Rattle.placing.specs.declared.Table.{Table}
 use Rattle.placing.specs.Table.{Consistent}
 use Rattle.page_text.specs.Page.{pageText}
-use Rattle.page.specs.Answers.{FullTable}
+use Rattle.page.specs.Answers.{Tabled}
 use Rattle.page.specs.Making.{page-asked, page-short, page-denied, page-made}
 use borrow.Author.Needs.{needs}
 use Rattle.page.proofs.page.Statement.{statement}
@@ -78,7 +78,7 @@ returns-6 c =
     let y = accepted (c .before .before .before .before .before .before .before .before .before .before .before .before .asked .ensures) (c .before .before .before .before .before .before .before .before .before .before .before .if1 .left) in
     let t = c .before .before .before .before .before .before .full-table .ensures in
     let p = c .before .before .put-page .ensures in
-    let full : FullTable (s .sheet) (s .interval) (s .starts .now) (s .instances .now) = record {
+    let full : Tabled (s .sheet) (s .interval) (s .starts .now) (s .instances .now) = record {
       starts = c .before .before .before .before .before .before .before .before .if3 .left;
       instances = c .before .before .before .before .before .before .before .if4 .left;
       consistent = subst (Consistent (s .sheet) (s .interval)) t (passed (c .before .before .before .before .before .consistent .ensures) (c .before .before .before .before .if5 .left));

@@ -1,13 +1,12 @@
 -- `page_text::page_length` meets its contract.
 -- From what `type_length` ensures. The invariant: the sum over the types before r.
-use Prim.Native.Nat.{ℕ, _+_, _-_, _≤_}
+use Prim.Native.Nat.{_+_, _-_, _≤_}
 use native.Mathlib.Omega.{arith}
 use mathlib.Core.Path.{_≡_, ap, _∙_}
+use Rattle.laws.specs.Count.{total-none, total-more}
 use Rattle.sheet.specs.Sheet.{typeAt}
 use Rattle.sheet.specs.Facts.{types-most}
-use Rattle.page_text.specs.Page.{typeLength}
-use Rattle.page_text.specs.Joining.{total-none, total-more}
-use Rattle.page_text.specs.Widths.{few-slots, lengthTo, length-most}
+use Rattle.page_text.specs.Widths.{typeLength, few-slots, lengthTo, length-most}
 use borrow.Author.Needs.{needs}
 use Rattle.page_text.proofs.page_length.Statement.{statement}
 use Rattle.page_text.proofs.page_length.Tie as tie

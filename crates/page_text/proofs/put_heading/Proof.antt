@@ -1,6 +1,6 @@
 -- `page_text::put_heading` meets its contract.
 -- From what `put_at` and `put_in_five` ensure: the three parts one after the other.
-use mathlib.Core.Path.{_≡_, sym}
+use mathlib.Core.Path.{sym}
 use native.Mathlib.Omega.{arith}
 use Rattle.page_text.specs.Pasting.{pasted-as, pasted-then}
 use Rattle.page_text.specs.Widths.{five-wide, heading-parts}
@@ -39,7 +39,7 @@ returns c =
     let p = c .before .before .before .before .before .before .before .before .before .before .before .put-at .ensures in
     let q = c .before .before .before .before .before .before .before .put-in-five .ensures in
     let w = five-wide (s .args .r) (s .pre .0) in
-    pasted-as (sym (heading-parts (s .args .r)))
+    pasted-as (sym (heading-parts (s .args .r) (s .pre .0)))
     (pasted-then (omega arith) p (pasted-then (omega (arith, p .ends, p .size)) q (c .before .before .put-at2 .ensures)))
 
 pub put-heading-spec : {M : Type 1} → statement M

@@ -1,14 +1,15 @@
 -- `page_text::put_page` meets its contract.
 -- From what `put_type` ensures. The invariant: the lines of the types before r are written, up to the place reached.
-use Prim.Native.Nat.{ℕ, _+_, _-_, _≤_}
+use Prim.Native.Nat.{_+_, _-_, _≤_}
 use native.Mathlib.Omega.{arith}
 use mathlib.Core.Path.{_≡_, sym, ap, _∙_}
+use Rattle.laws.specs.Count.{total-more, total-grows}
 use Rattle.sheet.specs.Sheet.{typeAt}
 use Rattle.sheet.specs.Facts.{types-most}
-use Rattle.page_text.specs.Page.{typeLines, typeLength, userOf}
+use Rattle.page_text.specs.Page.{typeText}
 use Rattle.page_text.specs.Pasting.{Pasted, pasted-none, pasted-as, pasted-then, pasted-front}
-use Rattle.page_text.specs.Joining.{up-none, up-more, total-more, total-grows}
-use Rattle.page_text.specs.Widths.{linesTo, lines-long, page-lines}
+use Rattle.page_text.specs.Joining.{up-none, up-more}
+use Rattle.page_text.specs.Widths.{typeLength, linesTo, lines-long, page-lines}
 use borrow.Author.Needs.{needs}
 use Rattle.page_text.proofs.put_page.Statement.{statement}
 use Rattle.page_text.proofs.put_page.Tie as tie
@@ -47,7 +48,7 @@ loop-again c =
     let l = c .before .before .before .before .before .loop in
     let t = c .before .before .before .before .loop-test .taken in (
       omega arith,
-      pasted-as (sym (up-more (l .r) (λ q. typeLines (a .interval) (typeAt (a .sheet) q .instances) (userOf (a .sheet) (a .interval) (a .table) q) q)))
+      pasted-as (sym (up-more (l .r) (typeText (a .sheet) (a .interval) (a .table))))
           (pasted-then (omega arith) (l .inv .1) (c .before .before .put-type .ensures)),
     )
 

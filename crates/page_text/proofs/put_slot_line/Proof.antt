@@ -1,8 +1,7 @@
 -- `page_text::put_slot_line` meets its contract.
 -- From what `put_in_four`, `put_columns` and `put_at` ensure: the three parts one after the other.
-use Prim.Native.Nat.{ℕ}
 use native.Mathlib.Omega.{arith}
-use mathlib.Core.Path.{_≡_, sym}
+use mathlib.Core.Path.{sym}
 use Rattle.sizes.specs.Sizes.{mostInstances}
 use Rattle.laws.specs.Entry.{vec}
 use Rattle.page_text.specs.Pasting.{pasted-as, pasted-then}

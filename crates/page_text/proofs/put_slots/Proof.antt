@@ -3,14 +3,13 @@
 -- to the place reached.
 use Prim.Native.Nat.{ℕ, _-_, _≤_}
 use native.Mathlib.Omega.{arith}
-use mathlib.Core.Path.{_≡_, sym, ap, _∙_}
+use mathlib.Core.Path.{_≡_, sym, ap}
 use Rattle.laws.specs.Entry.{vec}
 use Rattle.sheet.specs.Facts.{ops-most}
 use Rattle.page_text.specs.Columns.{upTo}
 use Rattle.page_text.specs.Page.{slotLine, userOf}
 use Rattle.page_text.specs.Pasting.{Pasted, pasted-none, pasted-as, pasted-then}
 use Rattle.page_text.specs.Joining.{up-none, up-more}
-use Rattle.page_text.specs.Users.{FewUsers}
 use Rattle.page_text.specs.Widths.{few-slots, users-few, slot-same, slots-long}
 use borrow.Author.Needs.{needs}
 use Rattle.page_text.proofs.put_slots.Statement.{statement}

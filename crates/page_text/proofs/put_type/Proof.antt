@@ -2,11 +2,11 @@
 -- From what `put_heading` and `put_slots` ensure.
 use Prim.Native.Nat.{_<_}
 use native.Mathlib.Omega.{arith}
-use mathlib.Core.Path.{_≡_, sym}
+use mathlib.Core.Path.{sym}
 use Rattle.sheet.specs.Sheet.{typeAt}
 use Rattle.page_text.specs.Page.{userOf}
 use Rattle.page_text.specs.Pasting.{pasted-none, pasted-as, pasted-then}
-use Rattle.page_text.specs.Widths.{heading-long, limited-lines, unlimited-lines, limited-length, unlimited-length}
+use Rattle.page_text.specs.Widths.{heading-long, limited-lines, unlimited-lines, limited-length}
 use borrow.Author.Needs.{needs}
 use Rattle.page_text.proofs.put_type.Statement.{statement}
 use Rattle.page_text.proofs.put_type.Tie as tie

@@ -1,8 +1,7 @@
 -- `commands::pages::given` meets its contract.
 -- From what `page`, `alone`, `put` and `put_text` ensure: the page is made in a buffer of its own, and goes into the
 -- lent one whole.
-use mathlib.Core.Path.{_≡_, refl, sym}
-use lib.ListN.{length}
+use mathlib.Core.Path.{sym}
 use lib.Seq.{length-take-le}
 use Rattle.commands.specs.Shows.{lists}
 use Rattle.commands.specs.Answers.{put}

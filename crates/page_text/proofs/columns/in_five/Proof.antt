@@ -1,7 +1,8 @@
 -- `page_text::columns::in_five` meets its contract.
+-- From what `hundreds_byte` and `tens_byte` ensure, by the law of five bytes.
 use Prim.Native.Nat.{ℕ, _+_, _%_}
 use mathlib.Core.Path.{sym, ap₂, _∙_}
-use mathlib.Core.List.{List, [], _∷_}
+use mathlib.Core.List.{[], _∷_}
 use Rattle.page_text.specs.Digits.{five-bytes}
 use borrow.Author.Needs.{needs}
 use Rattle.page_text.proofs.columns.in_five.Statement.{statement}

@@ -1,6 +1,5 @@
 -- `page_text::columns::put_in_five` meets its contract.
 -- From what `in_five` and `put_at` ensure.
-use mathlib.Core.Path.{_≡_}
 use Rattle.page_text.specs.Pasting.{pasted-as}
 use borrow.Author.Needs.{needs}
 use Rattle.page_text.proofs.columns.put_in_five.Statement.{statement}

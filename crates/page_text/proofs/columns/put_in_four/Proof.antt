@@ -1,7 +1,7 @@
 -- `page_text::columns::put_in_four` meets its contract.
 -- From what `in_five` and `put_at` ensure: four columns are five without the first.
 use Prim.Native.Nat.{ℕ}
-use mathlib.Core.Path.{_≡_, sym, ap, _∙_}
+use mathlib.Core.Path.{sym, ap, _∙_}
 use mathlib.Core.List.{List}
 use lib.ListN.{drop, take}
 use Rattle.page_text.specs.Digits.{five-bytes, four-bytes}

@@ -1,4 +1,5 @@
 -- `page_text::columns::tens_byte` meets its contract.
+-- Assumes nothing.
 use borrow.Author.Tests.{lt-ltb, le-ltb}
 use borrow.Author.Needs.{needs}
 use Rattle.page_text.proofs.columns.tens_byte.Statement.{statement}

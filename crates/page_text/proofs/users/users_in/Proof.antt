@@ -2,10 +2,10 @@
 -- From what `reserves` and `with_user` ensure. The invariant: the users among the operations before i.
 use Prim.Native.Nat.{ℕ, _+_, _-_, _≤_}
 use native.Mathlib.Omega.{arith}
-use mathlib.Core.Path.{_≡_, refl, sym, ap, subst, _∙_}
+use mathlib.Core.Path.{_≡_, sym, ap, subst, _∙_}
 use mathlib.Core.Bool.{Bool}
 use mathlib.Core.List.{List}
-use lib.ListN.{length, getD}
+use lib.ListN.{getD}
 use Rattle.sheet.specs.declared.Operation.{Operation}
 use Rattle.sheet.specs.Sheet.{noOperation}
 use Rattle.placing.specs.declared.Placement.{Placement}

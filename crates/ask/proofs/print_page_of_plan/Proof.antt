@@ -1,12 +1,11 @@
--- `ask::print_plan` is safe: the starts and instances lie within their arrays.
+-- `ask::print_page_of_plan` is safe: the starts and instances lie within their arrays.
 -- From what `plan_lines::read` ensures of their count.
-use lib.ListN.{length}
 use lib.Seq.{length-take-le}
-use mathlib.Core.Path.{_≡_, sym}
+use mathlib.Core.Path.{sym}
 use native.Mathlib.Omega.{arith}
 use borrow.Author.Needs.{needs}
-use Rattle.ask.proofs.print_plan.Statement.{statement}
-use Rattle.ask.proofs.print_plan.Tie as tie
+use Rattle.ask.proofs.print_page_of_plan.Statement.{statement}
+use Rattle.ask.proofs.print_page_of_plan.Tie as tie
 
 slice-aggregate-read-full : tie.Need-slice-aggregate-read-full
 slice-aggregate-read-full c = search needs
@@ -57,8 +56,8 @@ print-page-requires c κs = search needs
 returns-3 : tie.Need-returns-3
 returns-3 c = search needs
 
-pub print-plan-spec : {M : Type 1} → statement M
-print-plan-spec =
+pub print-page-of-plan-spec : {M : Type 1} → statement M
+print-page-of-plan-spec =
     tie.close
     (tie.spec
     slice-aggregate-read-full
