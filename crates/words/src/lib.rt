@@ -147,12 +147,8 @@ fn at_interval(name: &[u8], given: Given) -> Asked
         return taking(given, true, false, Asked::Do(Command::Starts(interval)));
     }
     if check::same(name, b"separations") {
-        return taking(
-            given,
-            true,
-            false,
-            Asked::Do(Command::Separations(interval)),
-        );
+        let separations = Command::Separations(interval);
+        return taking(given, true, false, Asked::Do(separations));
     }
     if check::same(name, b"plan") {
         return taking(given, true, false, Asked::Do(Command::Plan(interval)));
@@ -164,12 +160,8 @@ fn at_interval(name: &[u8], given: Given) -> Asked
         return taking(given, true, false, Asked::PageOfPlan(interval));
     }
     if check::same(name, b"order") {
-        return taking(
-            given,
-            true,
-            true,
-            Asked::Do(Command::Order(interval, given.pair)),
-        );
+        let order = Command::Order(interval, given.pair);
+        return taking(given, true, true, Asked::Do(order));
     }
     Asked::Unknown
 }
