@@ -1,5 +1,5 @@
--- What leastplan prints for a plan reads back as that plan; so `page` of a plan in a file, given those lines, prints the
--- page of the first plan. Assumes nothing.
+-- What leastplan prints for a plan reads back as that plan; so `page`, given those lines in a file, prints the page of
+-- the first plan. Assumes nothing.
 use mathlib.Core.Path.{_≡_, refl, sym, ap, _∙_}
 use mathlib.Core.List.{List, [], _∷_}
 use Prim.Native.Nat.{ℕ, zero, suc, _≤_, _<_}

@@ -126,7 +126,7 @@ module _ {s : Sheet} {L : ℕ} (ok : Accepted s L) (ts us : List ℕ) (full : Ta
       subst (λ (p : Placement). InstanceAllowed s i (p .instance)) e (full .consistent .entries i .instance (ap (λ (p : Placement). p .placed) e))
 
   -- the column of a limited operation shows it and no other
-  shown : (i : ℕ) → i < s .«op_count» → Limited s i → userOf s L table (opAt s i .resource) (slot L (vec ts i)) (vec us i) ≡ suc i
+  pub shown : (i : ℕ) → i < s .«op_count» → Limited s i → userOf s L table (opAt s i .resource) (slot L (vec ts i)) (vec us i) ≡ suc i
   shown i h l =
       let e = entry i h in
       let r = opAt s i .resource in

@@ -23,8 +23,8 @@ fullTable (suc n) ts us = placing (fullTable n ts us) n (vec ts n) (vec us n)
 abbrev pub planPage : Sheet → ℕ → List ℕ → List ℕ → List ℕ
 planPage s L ts us = pageText s L (fullTable (s .«op_count») ts us)
 
--- question 9: the buffer takes the whole page; its length follows from the sheet and the interval alone (a law), so it is
--- asked before 10
+-- question 9: the buffer takes the whole page; its length follows from the sheet and the interval alone (a law), so it
+-- is asked before 10
 abbrev pub Fits : Sheet → ℕ → List ℕ → List ℕ → List ℕ → Type 0
 Fits s L ts us old = length (planPage s L ts us) ≤ length old
 

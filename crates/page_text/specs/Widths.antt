@@ -1,5 +1,5 @@
--- The widths of the page: a column has 5 characters, a line 45 bytes, and so the length of the whole, which follows from
--- the sheet and the interval alone. And the lines as the code writes them. Assumes nothing.
+-- The widths of the page: a column has 5 characters, a line 45 bytes, and so the length of the whole, which follows
+-- from the sheet and the interval alone. And the lines as the code writes them. Assumes nothing.
 use Prim.Native.Nat.{ℕ, zero, suc, _+_, _-_, _*_, _≤_, _<_}
 use native.Mathlib.Omega.{arith}
 use mathlib.Core.Path.{_≡_, refl, sym, ap, _∙_}

@@ -1,6 +1,6 @@
 -- `page_text::put_slots` meets its contract.
--- From what `users_in` and `put_slot_line` ensure. The invariant: the lines of the slots before this one are written, up
--- to the place reached.
+-- From what `users_in` and `put_slot_line` ensure. The invariant: the lines of the slots before this one are written,
+-- up to the place reached.
 use Prim.Native.Nat.{ℕ, _-_, _≤_}
 use native.Mathlib.Omega.{arith}
 use mathlib.Core.Path.{_≡_, sym, ap}
