@@ -1,7 +1,5 @@
 // C calls on the bytes of a sheet: least interval, plan text, slot order, page. They read the sheet and call the
 // service; include/leastplan.h describes them.
-ghost use mathlib.Core.Path.{_≡_};
-ghost use Rattle.text.specs.Line.{refused};
 ghost use Rattle.host.specs.Calls.{LeastOf, PlanTextOf, SlotOrderOf, PageOf};
 use plan::IntervalAnswer;
 use text::Written;
@@ -29,13 +27,6 @@ pub extern "C" fn leastplan_least_interval(sheet: &[u8]) -> IntervalAnswer
     schedule::least_interval(numbers)
 }
 
-// A refusal of the bytes: nothing is written.
-fn unwritten(answer: usize) -> Written
-    ensures { λ r. ⌜ r ≡ refused answer ⌝ }
-{
-    Written { answer, count: 0 }
-}
-
 #[no_mangle]
 pub extern "C" fn leastplan_plan_text(sheet: &[u8], interval: usize, out: &mut [u8]) -> Written
     ensures { λ r. ⌜ PlanTextOf (now (sheet .entry)) interval (now (out .entry)) r (now (out .exit)) ⌝ }
@@ -43,7 +34,7 @@ pub extern "C" fn leastplan_plan_text(sheet: &[u8], interval: usize, out: &mut [
     let read = reader::read(sheet);
     let answer = read.answer;
     if answer != 0 {
-        return unwritten(answer);
+        return Written { answer, count: 0 };
     }
     let numbers = read.sheet;
     let text = report::plan_text(numbers, interval, out);
@@ -81,9 +72,12 @@ pub extern "C" fn leastplan_page(
     ensures { λ r. ⌜ PageOf (now (sheet .entry)) interval (now (starts .entry)) (now (instances .entry)) (now (out .entry)) (record { written = r; buffer = now (out .exit) }) ⌝ }
 {
     let read = reader::read(sheet);
-    let answer = read.answer;
-    if answer != 0 {
-        return unwritten(answer);
+    let refusal = read.answer;
+    if refusal != 0 {
+        return Written {
+            answer: refusal,
+            count: 0,
+        };
     }
     let numbers = read.sheet;
     page::page(numbers, interval, starts, instances, out)

@@ -8,11 +8,8 @@ use Rattle.host.proofs.leastplan_page.Tie as tie
 read-requires : tie.Need-read-requires
 read-requires c κs = search needs
 
-unwritten-requires : tie.Need-unwritten-requires
-unwritten-requires c κs = search needs
-
 returns : tie.Need-returns
-returns c = rw (c .unwritten .ensures) (page-unread _ (c .before .before .read .ensures) (c .before .if1 .taken))
+returns c = page-unread _ (c .before .read .ensures) (c .if1 .taken)
 
 page-requires : tie.Need-page-requires
 page-requires c κs = search needs
@@ -30,7 +27,6 @@ leastplan-page-spec =
     tie.close
     (tie.spec
     read-requires
-    unwritten-requires
     returns
     page-requires
     same-length

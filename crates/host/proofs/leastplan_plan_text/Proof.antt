@@ -8,11 +8,8 @@ use Rattle.host.proofs.leastplan_plan_text.Tie as tie
 read-requires : tie.Need-read-requires
 read-requires c κs = search needs
 
-unwritten-requires : tie.Need-unwritten-requires
-unwritten-requires c κs = search needs
-
 returns : tie.Need-returns
-returns c = rw (c .unwritten .ensures) (text-unread _ (c .before .before .read .ensures) (c .before .if1 .taken))
+returns c = text-unread _ (c .before .read .ensures) (c .if1 .taken)
 
 plan-text-requires : tie.Need-plan-text-requires
 plan-text-requires c κs = search needs
@@ -21,16 +18,13 @@ same-length : tie.Need-same-length
 same-length c = search needs
 
 returns-2 : tie.Need-returns-2
-returns-2 c =
-    let i = c .before .before .before .before .before in
-    text-served _ (i .before .read .ensures) (i .if1 .left) (c .before .before .plan-text .ensures)
+returns-2 c = text-served _ (c .before .before .before .before .before .before .read .ensures) (c .before .before .before .before .before .if1 .left) (c .before .before .plan-text .ensures)
 
 pub leastplan-plan-text-spec : {M : Type 1} → statement M
 leastplan-plan-text-spec =
     tie.close
     (tie.spec
     read-requires
-    unwritten-requires
     returns
     plan-text-requires
     same-length
