@@ -1,8 +1,6 @@
 -- Entries past R, N or E are no part of a sheet: sheets that differ only there get the same page. Assumes nothing.
-use Prim.Native.Nat.{ℕ, zero, suc, _≤_, _<_}
-use native.Mathlib.Omega.{arith}
-use mathlib.Core.Path.{_≡_, refl, sym, ap, ap₂, subst, _∙_}
-use mathlib.Core.Bool.{Bool, cond}
+use Prim.Native.Nat.{ℕ, _≤_}
+use mathlib.Core.Path.{_≡_, sym, ap, ap₂, subst, _∙_}
 use mathlib.Core.List.{List}
 use lib.ListN.{length}
 use Rattle.sheet.specs.declared.Sheet.{Sheet}
@@ -16,13 +14,9 @@ use Rattle.placing.specs.Table.{placementAt, Consistent}
 use Rattle.placing.specs.SameEntries.{consistent-same}
 use Rattle.page_text.specs.Page.{typeLines, uses, lastOf, userOf, typeText, pageText}
 use Rattle.page_text.specs.Joining.{up-same}
+use Rattle.page_text.specs.Users.{last-same}
 use Rattle.page_text.specs.Widths.{linesTo, page-lines}
 use Rattle.page.specs.Answers.{fullTable, planPage, Fits, Tabled, IfTabled, PageAnswer, pageRefused, printed, PageAt}
-
-last-same : (n : ℕ) (f g : ℕ → Bool) → ((i : ℕ) → i < n → f i ≡ g i) → lastOf n f ≡ lastOf n g
-unfolding lastOf
-last-same zero f g h = refl
-last-same (suc n) f g h = ap₂ (λ (b : Bool) (k : ℕ). cond b (suc n) k) (h n (omega arith)) (last-same n f g (λ i l. h i (omega arith)))
 
 module _ {s s' : Sheet} (e : SameSheet s s') (L : ℕ) where
   user-same : (table : Table) (r slot′ a : ℕ) → userOf s L table r slot′ a ≡ userOf s' L table r slot′ a

@@ -6,5 +6,6 @@ pub mod Making
 pub mod Unique
 pub mod OfPlans
 pub mod Alike
+pub mod Determined
 pub mod Paper
 pub mod Entries

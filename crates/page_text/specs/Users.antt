@@ -4,7 +4,7 @@ use Prim.Native.Nat.{ℕ, zero, suc, _+_, _≤_, _<_}
 use native.Mathlib.Omega.{arith}
 use native.Mathlib.Numerals.{add-one}
 use native.Mathlib.Decide.{ℕ-discrete}
-use mathlib.Core.Path.{_≡_, refl, sym, ap, subst, _∙_}
+use mathlib.Core.Path.{_≡_, refl, sym, ap, ap₂, subst, _∙_}
 use mathlib.Core.Bool.{Bool, true, false, cond}
 use mathlib.Core.List.{List}
 use lib.Dec.{eqb, ltb}
@@ -31,6 +31,11 @@ last-hit n flag e = rw (add-one, e)
 last-miss : (n : ℕ) (flag : ℕ → Bool) → flag n ≡ false → lastOf n flag ≡ lastOf (n + 1) flag
 unfolding lastOf
 last-miss n flag e = rw (add-one, e)
+
+pub last-same : (n : ℕ) (f g : ℕ → Bool) → ((i : ℕ) → i < n → f i ≡ g i) → lastOf n f ≡ lastOf n g
+unfolding lastOf
+last-same zero f g h = refl
+last-same (suc n) f g h = ap₂ (λ (b : Bool) (k : ℕ). cond b (suc n) k) (h n (omega arith)) (last-same n f g (λ i l. h i (omega arith)))
 
 pub last-bound : (n : ℕ) (flag : ℕ → Bool) → lastOf n flag ≤ n
 unfolding lastOf
