@@ -16,13 +16,15 @@ use Rattle.page_text.specs.Columns.{blanks, right, padded, upTo, lineFee
 
 -- ---- the lines; a user of an instance is 0 for no operation, i + 1 for operation i
 
--- the widths of a line, of a column and of a slot's number
+-- the characters of a line
 abbrev pub lineWidth : ℕ
 lineWidth = 44
 
+-- of a column, and of the number in a heading
 abbrev pub columnWidth : ℕ
 columnWidth = 5
 
+-- of a slot's number
 abbrev pub slotWidth : ℕ
 slotWidth = 4
 
