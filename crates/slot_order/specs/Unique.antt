@@ -11,7 +11,7 @@ use Rattle.sheet.specs.Questions.{Asked, at-no, at-yes, Is, One, is-one, asked-
 use Rattle.plan.specs.declared.PlanAnswer.{PlanAnswer}
 use Rattle.plan.specs.Rules.{Rivals}
 use Rattle.plan.specs.AfterPlan.{after-plan-one}
-use Rattle.slot_order.specs.Pairs.{pair-unique}
+use Rattle.slot_order.specs.PairLaws.{pair-unique}
 use Rattle.slot_order.specs.Answers.{Order, same, first, second, refused, refusedBy, Ordered, Paired, SlotOrderAt}
 use Rattle.slot_order.specs.declared.SlotOrder.{SlotOrder}
 

@@ -2,7 +2,7 @@
 ghost use Prim.Native.Nat.{_<_};
 ghost use mathlib.Core.Path.{_≡_};
 ghost use Rattle.plan.specs.Answers.{PlanAt};
-ghost use Rattle.slot_order.specs.Pairs.{Between, mostPairs};
+ghost use Rattle.slot_order.specs.PairLaws.{Between, mostPairs};
 ghost use Rattle.slot_order.specs.Answers.{SlotOrderAt, Order, refused};
 use plan::PlanAnswer;
 use sheet::Sheet;

@@ -3,7 +3,7 @@
 use Prim.Native.Nat.{ℕ, _≤_, _<_, _-_, _+_}
 use native.Mathlib.Omega.{arith}
 use mathlib.Core.Path.{_≡_, sym, subst}
-use Rattle.slot_order.specs.Pairs.{firstPair}
+use Rattle.slot_order.specs.PairLaws.{firstPair}
 use Rattle.slot_order.proofs.later_of.Statement.{statement}
 use Rattle.slot_order.proofs.later_of.Tie as tie
 

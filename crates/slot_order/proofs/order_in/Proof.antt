@@ -10,7 +10,8 @@ use Rattle.plan.specs.Exactly.{accepted-given}
 use Rattle.plan.specs.AfterPlan.{plan-refused, plan-given}
 use Rattle.laws.specs.Tests.{denied, passed}
 use Rattle.sheet.specs.Facts.{ops-most}
-use Rattle.slot_order.specs.Pairs.{Pair, firstPair, pair-below, between-pair, not-below, top}
+use Rattle.slot_order.specs.Pairs.{Pair}
+use Rattle.slot_order.specs.PairLaws.{firstPair, pair-below, between-pair, not-below, top}
 use Rattle.slot_order.specs.Answers.{refusedBy}
 use borrow.Author.Needs.{needs}
 use Rattle.slot_order.proofs.order_in.Statement.{statement}
