@@ -1,41 +1,17 @@
 // Slot order: which operation of a pair of rivals has the smaller slot in the plan at an interval.
-ghost use Prim.Native.Nat.{_<_};
+ghost use Prim.Native.Nat.{_<_, _≤_};
 ghost use mathlib.Core.Path.{_≡_};
 ghost use Rattle.plan.specs.Answers.{PlanAt};
+ghost use Rattle.sizes.specs.Sizes.{mostOperations};
+ghost use Rattle.slot_order.specs.Pairs.{pairCount};
 ghost use Rattle.slot_order.specs.PairLaws.{Between, mostPairs};
 ghost use Rattle.slot_order.specs.Answers.{SlotOrderAt, Order, refused};
 use plan::PlanAnswer;
 use sheet::Sheet;
 use sizes::MOST_OPERATIONS;
 
-// The first pair number for each j, and at 24 the number of all pairs.
-const FIRST_PAIRS: [usize; 25] = [
-    0,
-    0,
-    1,
-    3,
-    6,
-    10,
-    15,
-    21,
-    28,
-    36,
-    45,
-    55,
-    66,
-    78,
-    91,
-    105,
-    120,
-    136,
-    153,
-    171,
-    190,
-    210,
-    231,
-    253,
-    276,
-];
+// The last operation of a sheet that has as many as it can.
+const LAST_OPERATION: usize = MOST_OPERATIONS - 1;
 
 // The slot order, or why there is none; with 5 the first bad closed walk.
 #[repr(C)]
@@ -58,14 +34,24 @@ fn refusal(answer: usize) -> SlotOrder
     }
 }
 
+// The first pair number for j, j × (j − 1) / 2: the pairs among the j operations before it, where each has j − 1 others
+// and each pair is counted twice. So it is also the number of all pairs of j operations.
+fn first_pair(j: usize) -> usize
+    requires { ⌜ (1 ≤ j) × (j ≤ mostOperations) ⌝ }
+    ensures { λ r. ⌜ r ≡ pairCount j ⌝ }
+{
+    let others = j - 1;
+    j * others / 2
+}
+
 // The later operation j of a pair.
 fn later_of(pair: usize) -> usize
     requires { ⌜ pair < mostPairs ⌝ }
     ensures { λ r. ⌜ Between pair r ⌝ }
 {
     let mut j: usize = 1;
-    while j < 23 {
-        let next = FIRST_PAIRS[j + 1];
+    while j < LAST_OPERATION {
+        let next = first_pair(j + 1);
         if pair < next {
             return j;
         }
@@ -101,12 +87,12 @@ fn order_in(sheet: Sheet, interval: usize, pair: usize, plan: PlanAnswer) -> Slo
             loop_edges,
         };
     }
-    let count = sheet.op_count;
-    if FIRST_PAIRS[count] <= pair {
+    let pairs = first_pair(sheet.op_count);
+    if pairs <= pair {
         return refusal(14);
     }
     let j = later_of(pair);
-    let i = pair - FIRST_PAIRS[j];
+    let i = pair - first_pair(j);
     if !rules::rivals(sheet, i, j) {
         return refusal(15);
     }

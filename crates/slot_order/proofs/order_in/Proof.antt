@@ -1,4 +1,4 @@
--- `slot_order::order_in` meets its contract: each answer is a case of `SlotOrderAt`; the table gives the pair's
+-- `slot_order::order_in` meets its contract: each answer is a case of `SlotOrderAt`; the pair's number gives its
 -- operations. Assumes nothing.
 use mathlib.Core.Path.{refl}
 use Prim.Native.Nat.{_<_, _-_}
@@ -9,9 +9,9 @@ use Rattle.sheet.specs.Questions.{at-no, at-yes}
 use Rattle.plan.specs.Exactly.{accepted-given}
 use Rattle.plan.specs.AfterPlan.{plan-refused, plan-given}
 use Rattle.laws.specs.Tests.{denied, passed}
-use Rattle.sheet.specs.Facts.{ops-most}
-use Rattle.slot_order.specs.Pairs.{Pair}
-use Rattle.slot_order.specs.PairLaws.{firstPair, pair-below, between-pair, not-below, top}
+use Rattle.sheet.specs.Facts.{ops-least, ops-most}
+use Rattle.slot_order.specs.Pairs.{pairCount, PairNumber, Pair}
+use Rattle.slot_order.specs.PairLaws.{between-pair, top}
 use Rattle.slot_order.specs.Answers.{refusedBy}
 use borrow.Author.Needs.{needs}
 use Rattle.slot_order.proofs.order_in.Statement.{statement}
@@ -21,44 +21,50 @@ use Rattle.slot_order.proofs.order_in.Tie as tie
 ranged : (c : tie.Else1) → InRange (c .before .before .args .sheet)
 ranged c = accepted-given (c .before .before .pre) (c .if1 .left) .0 .sheet
 
--- the pair's operations
-found : (c : tie.After-later-of) → Pair (c .before .before .before .before .args .sheet .«op_count») (c .before .before .before .before .args .pair) (c .before .before .before .before .args .pair - firstPair (c .later-of .result)) (c .later-of .result)
-found c = between-pair _ _ _ (ops-most (ranged (c .before .before))) (c .before .if2 .left) (c .later-of .ensures)
+-- question 14 was answered by yes
+numbered : (c : tie.Else2) → PairNumber (c .before .before .before .before .args .sheet .«op_count») (c .before .before .before .before .args .pair)
+numbered c = rw (c .before .first-pair .ensures) at (c .if2 .left)
 
-below : (c : tie.After-later-of) → (c .before .before .before .before .args .pair - firstPair (c .later-of .result) < mostOperations) × (c .later-of .result < mostOperations)
+-- the pair's operations
+found : (c : tie.After-later-of) → Pair (c .before .before .before .before .before .args .sheet .«op_count») (c .before .before .before .before .before .args .pair) (c .before .before .before .before .before .args .pair - pairCount (c .later-of .result)) (c .later-of .result)
+found c = between-pair _ _ _ (numbered (c .before)) (c .later-of .ensures)
+
+-- as the code has them
+formed : (c : tie.After-first-pair2) → Pair (c .before .before .before .before .before .before .args .sheet .«op_count») (c .before .before .before .before .before .before .args .pair) (c .before .before .before .before .before .before .args .pair - c .first-pair2 .result) (c .before .later-of .result)
+formed c = rw (c .first-pair2 .ensures) (found (c .before))
+
+below : (c : tie.After-first-pair2) → (c .before .before .before .before .before .before .args .pair - c .first-pair2 .result < mostOperations) × (c .before .later-of .result < mostOperations)
 below c =
-    let p = found c in
-    let m = ops-most (ranged (c .before .before)) in
+    let p = formed c in
+    let m = ops-most (ranged (c .before .before .before .before)) in
     (omega (arith, p .before, p .within), omega (arith, p .within))
 
 returns : tie.Need-returns
 returns c = plan-refused refusedBy (c .before .before .before .pre) (c .before .if1 .taken) refl
 
-mul-if2 : tie.Need-mul-if2
-mul-if2 c = let h = ops-most (ranged c) in omega arith
-
-array-read-if2 : tie.Need-array-read-if2
-array-read-if2 c = let h = ops-most (ranged c) in omega arith
+first-pair-requires : tie.Need-first-pair-requires
+first-pair-requires c κs = (ops-least (ranged c), ops-most (ranged c))
 
 refusal-requires : tie.Need-refusal-requires
 refusal-requires c κs = search needs
 
 returns-2 : tie.Need-returns-2
 returns-2 c =
-    let b = c .before in
-    plan-given refusedBy (b .before .before .before .pre) (b .before .if1 .left) (at-no (not-below _ _ (ops-most (ranged (b .before))) (b .if2 .taken)) (c .refusal .ensures))
+    let f = c .before .before in
+    plan-given refusedBy (f .before .before .before .pre) (f .before .if1 .left)
+    (at-no (λ h. omega (arith, h, f .first-pair .ensures, c .before .if2 .taken)) (c .refusal .ensures))
 
 later-of-requires : tie.Need-later-of-requires
-later-of-requires c κs = let h = top _ (ops-most (ranged (c .before))) in omega (arith, c .if2 .left)
+later-of-requires c κs = omega (arith, numbered c, top _ (ops-most (ranged (c .before .before))))
 
-mul-i : tie.Need-mul-i
-mul-i c = search needs
-
-array-read-i : tie.Need-array-read-i
-array-read-i c = search needs
+first-pair-requires-2 : tie.Need-first-pair-requires-2
+first-pair-requires-2 c κs =
+    let p = found c in
+    let m = ops-most (ranged (c .before .before .before)) in
+    (omega (arith, p .before), omega (arith, p .within))
 
 sub-i : tie.Need-sub-i
-sub-i c = search needs
+sub-i c = omega (arith, c .first-pair2 .ensures, c .before .later-of .ensures .from)
 
 rivals-requires : tie.Need-rivals-requires
 rivals-requires c κs = search needs
@@ -68,11 +74,11 @@ refusal-requires-2 c κs = search needs
 
 returns-3 : tie.Need-returns-3
 returns-3 c =
-    let b = c .before in
-    let p = found (b .before .before) in
-    plan-given refusedBy (b .before .before .before .before .before .before .pre) (b .before .before .before .before .if1 .left)
-    (at-yes (pair-below (ops-most (ranged (b .before .before .before .before))) p)
-    (record { i = _; j = _; formed = p; rivals = at-no (denied (b .before .rivals .ensures) (b .if3 .taken)) (c .refusal2 .ensures) }))
+    let r = c .before .before in
+    let e = r .before .before .before in
+    plan-given refusedBy (e .before .before .before .before .pre) (e .before .before .if1 .left)
+    (at-yes (numbered e)
+    (record { i = _; j = _; formed = formed (r .before); rivals = at-no (denied (r .rivals .ensures) (c .before .if3 .taken)) (c .refusal2 .ensures) }))
 
 mul-slot-of : tie.Need-mul-slot-of
 mul-slot-of c = let h = below (c .before .before .before) in omega arith
@@ -84,10 +90,10 @@ slot-of-requires : tie.Need-slot-of-requires
 slot-of-requires c κs = search needs
 
 mul-slot-of-2 : tie.Need-mul-slot-of-2
-mul-slot-of-2 c = search needs
+mul-slot-of-2 c = let h = below (c .before .before .before .before) in omega arith
 
 array-read-slot-of-2 : tie.Need-array-read-slot-of-2
-array-read-slot-of-2 c = search needs
+array-read-slot-of-2 c = below (c .before .before .before .before) .1
 
 slot-of-requires-2 : tie.Need-slot-of-requires-2
 slot-of-requires-2 c κs = search needs
@@ -97,15 +103,16 @@ order-of-requires c κs = search needs
 
 returns-4 : tie.Need-returns-4
 returns-4 c =
-    let r = c .before .before .before .before in
-    let p = found (r .before .before) in
-    plan-given refusedBy (r .before .before .before .before .before .before .pre) (r .before .before .before .before .if1 .left)
-    (at-yes (pair-below (ops-most (ranged (r .before .before .before .before))) p)
+    let l = c .before .before .before .before in
+    let r = l .before in
+    let e = r .before .before .before in
+    plan-given refusedBy (e .before .before .before .before .pre) (e .before .before .if1 .left)
+    (at-yes (numbered e)
     (record {
       i = _;
       j = _;
-      formed = p;
-      rivals = at-yes (passed (r .before .rivals .ensures) (r .if3 .left)) (record {
+      formed = formed (r .before);
+      rivals = at-yes (passed (r .rivals .ensures) (l .if3 .left)) (record {
         order = _;
         ordered = rw (c .before .before .slot-of .ensures, c .before .slot-of2 .ensures) at (c .order-of .ensures);
         pinned = refl;
@@ -117,13 +124,11 @@ order-in-spec =
     tie.close
     (tie.spec
     returns
-    mul-if2
-    array-read-if2
+    first-pair-requires
     refusal-requires
     returns-2
     later-of-requires
-    mul-i
-    array-read-i
+    first-pair-requires-2
     sub-i
     rivals-requires
     refusal-requires-2
