@@ -1,56 +1,31 @@
 -- Reading, as the code meets it: one law for each way that a line, a turn of a loop or a section can go.
 -- Assumes nothing.
 use mathlib.Core.Path.{_≡_, refl, sym, ap, subst, _∙_}
-use mathlib.Core.Bool.{Bool, true, false, not}
+use mathlib.Core.Bool.{true, false, not}
 use mathlib.Core.List.{List, [], _∷_, _++_, append-assoc}
 use Prim.Native.Nat.{ℕ, zero, suc, _+_, _-_, _≤_, _<_}
 use native.Mathlib.Nat.{sub-zero}
 use native.Mathlib.Numerals.{add-one}
 use native.Mathlib.Omega.{arith}
 use lib.Dec.{T}
-use lib.IntN.{ℤ, pos, negsuc, natAbs}
+use lib.IntN.{ℤ, pos, natAbs}
 use lib.ListN.{length, drop, take, getD, set, replicate, length-append, length-set, length-replicate}
-use lib.Seq.{take-suc-set, set-append-seam, getD-take, length-take-le}
+use lib.Seq.{take-suc-set, set-append-seam, length-take-le}
 use lib.Signed.{nonNeg}
-use mir.Syntax.{w32, w64}
-use mir.Val.{Fits, toZ, ofZ}
-use borrow.Author.Tests.{not-true, not-false, ne-eqb}
-use Rattle.text.specs.Sizes.{fourDigits}
-use Rattle.laws.specs.Z.{kept, true-false, four-digits}
+use mir.Syntax.{w64}
+use mir.Val.{Fits}
+use borrow.Author.Tests.{not-true, not-false}
 use Rattle.scan.specs.declared.Line.{Line}
 use Rattle.scan.specs.Line.{Fields, fields, bad, lineOf, seenLine, LineFits}
-use Rattle.scan.specs.RoundTrip.{isNegative, MayStand, Writable, line-text}
+use Rattle.scan.specs.Values as values
+use Rattle.scan.specs.Values.{seen-fields, seen-bad, bits, bits-at}
 use Rattle.sheet.specs.Ranges.{Inside}
 use Rattle.sheet.specs.AnswerLaws.{number-judged}
 use Rattle.reader.specs.Kinds.{numberKind}
 use Rattle.reader.specs.Found.{Found, found, refused, judged, Kind, lineFrom, linesFrom, sectionFrom}
 use Rattle.reader.specs.Seen.{seen, Reads, Filled, Refuses, Entries}
 
--- ---- numbers of a line
-
--- a number that is not at the place of the minus is not negative
-writable-plain : (minus i j : ℕ) (vs : List ℤ) → Writable minus i vs → (i + j ≡ minus → ⊥) → isNegative (getD vs j (pos 0)) ≡ false
-writable-plain minus i j [] w n = refl
-writable-plain minus i zero (v ∷ vs) w n = subst (λ (b : Bool). MayStand b v) (ne-eqb i minus (λ e. n (omega arith))) (w .1)
-writable-plain minus i (suc j) (v ∷ vs) w n = writable-plain minus (suc i) j vs (w .2) (λ e. n (omega arith))
-
-plain : (v : ℤ) → natAbs v ≤ fourDigits → isNegative v ≡ false → T (nonNeg v) × Fits w64 (natAbs v)
-plain (pos n) h e = (tt, record { fits = omega arith })
-plain (negsuc n) h e = true-false e
-
-pub plain-nat : (v : ℤ) → isNegative v ≡ false → v ≡ pos (natAbs v)
-plain-nat (pos n) e = refl
-plain-nat (negsuc n) e = true-false e
-
 -- ---- one line
-
-seen-fields : (s : List ℕ) (k : ℕ) (l : Line) {n : Fields} → seenLine s k l ≡ n → l .ok ≡ true → n ≡ fields (take k (l .values)) (drop (l .next) s)
-unfolding seenLine
-seen-fields s k l e t = sym e ∙ rw t
-
-seen-bad : (s : List ℕ) (k : ℕ) (l : Line) {n : Fields} → seenLine s k l ≡ n → l .ok ≡ false → n ≡ bad
-unfolding seenLine
-seen-bad s k l e t = sym e ∙ rw t
 
 judged-no : {A : Type 0} (n : ℕ) (a : A) (bs rest : List ℕ) → (n ≡ 0 → ⊥) → judged n a bs rest ≡ refused n bs
 judged-no zero a bs rest h = absurd (h refl)
@@ -90,21 +65,12 @@ module _ {A : Type 0} (k : Kind A) (s : List ℕ) (at : ℕ) (l : Line) (e : see
     got = seen-fields s (k .count) l e (not-false _ t)
 
     -- a number is read back from its bits
-    pub value-at : (i : ℕ) → i < k .count → toZ w32 (ofZ w32 (getD (l .values) i (pos 0))) ≡ getD (take (k .count) (l .values)) i (pos 0)
-    value-at i h = kept (four-digits (getD (l .values) i (pos 0)) (fits .small i)) ∙ sym (getD-take (k .count) (l .values) i (pos 0) h)
-
-    not-negative : (i : ℕ) → i < k .count → (i ≡ k .minus → ⊥) → isNegative (getD (l .values) i (pos 0)) ≡ false
-    not-negative i h n =
-        ap isNegative (sym (getD-take (k .count) (l .values) i (pos 0) h))
-        ∙ writable-plain (k .minus) 0 i (take (k .count) (l .values)) (line-text (k .key) (k .count) (k .minus) (drop at s) _ _ got .good) (λ z. n (omega arith))
+    pub value-at : (i : ℕ) → i < k .count → bits l i ≡ getD (take (k .count) (l .values)) i (pos 0)
+    value-at i h = bits-at fits i h
 
     -- its cast to an unsigned number
-    pub cast-at : (i : ℕ) → i < k .count → (i ≡ k .minus → ⊥)
-        → T (nonNeg (toZ w32 (ofZ w32 (getD (l .values) i (pos 0))))) × Fits w64 (natAbs (toZ w32 (ofZ w32 (getD (l .values) i (pos 0)))))
-    cast-at i h n =
-        let v = getD (l .values) i (pos 0) in
-        let q : toZ w32 (ofZ w32 (getD (l .values) i (pos 0))) ≡ getD (l .values) i (pos 0) = kept (four-digits v (fits .small i)) in
-        rw q (plain v (fits .small i) (not-negative i h n))
+    pub cast-at : (i : ℕ) → (i ≡ k .minus → ⊥) → T (nonNeg (bits l i)) × Fits w64 (natAbs (bits l i))
+    cast-at i n = values.cast-at (k .key) (k .count) (k .minus) (drop at s) s l got fits i n
 
     module _ (a : A) (made : a ≡ k .make (take (k .count) (l .values))) where
       pub refuses : {answer : ℕ} → at ≤ length s → (none : A) → answer ≡ k .answer a → (answer ≡ 0 → ⊥) → Reads s answer none at (lineFrom k (drop at s))

@@ -5,4 +5,5 @@ pub mod Line
 pub mod Bytes
 pub mod Digits
 pub mod RoundTrip
+pub mod Values
 pub mod OneLine

@@ -6,19 +6,19 @@ use mathlib.Core.List.{List, [], _∷_}
 use Prim.Native.Nat.{ℕ, _≤_, _<_}
 use native.Mathlib.Omega.{arith}
 use lib.Dec.{T, eqb}
-use lib.IntN.{ℤ, pos, negsuc, natAbs}
-use lib.ListN.{length, take, drop, getD, drop-of-length-le}
-use lib.Seq.{drop-cons, getD-take}
+use lib.IntN.{natAbs}
+use lib.ListN.{length, take, drop, drop-of-length-le}
+use lib.Seq.{drop-cons}
 use lib.Signed.{nonNeg}
-use mir.Syntax.{w32, w64}
-use mir.Val.{Fits, toZ, ofZ}
+use mir.Syntax.{w64}
+use mir.Val.{Fits}
 use borrow.Author.Tests.{eq-eqb, eqb-true}
 use Rattle.laws.specs.Tests.{by-test}
-use Rattle.laws.specs.Z.{kept, true-false, four-digits}
+use Rattle.laws.specs.Z.{true-false}
 use Rattle.text.specs.Keys.{intervalKey}
 use Rattle.scan.specs.declared.Line.{Line}
-use Rattle.scan.specs.Line.{fields, bad, noMinus, lineOf, seenLine, LineFits}
-use Rattle.scan.specs.RoundTrip.{Writable, line-text}
+use Rattle.scan.specs.Line.{fields, noMinus, lineOf, seenLine, LineFits}
+use Rattle.scan.specs.Values.{seen-fields, seen-bad, bits, bits-at, cast-at}
 use Rattle.words.specs.declared.Given.{Given}
 use Rattle.words.specs.declared.Argument.the-variants.{Number, Other}
 use Rattle.words.specs.Arguments.{pairKey, numberAfter, withInterval, withPair, withOther, withWord}
@@ -26,37 +26,26 @@ use Rattle.words.specs.Requests.{Row, taking, same, requestIn}
 
 -- ---- a line that was read
 
--- the first of numbers that carry no minus
-first-whole : (vs : List ℤ) → Writable noMinus 0 vs → T (nonNeg (getD vs 0 (pos 0))) × Fits w64 (natAbs (getD vs 0 (pos 0)))
-first-whole [] w = (tt, record { fits = omega arith })
-first-whole (pos n ∷ vs) w = let h = w .0 in (tt, record { fits = omega arith })
-first-whole (negsuc n ∷ vs) w = true-false (w .1)
-
 module _ (key line : List ℕ) (l : Line) (e : seenLine line 1 l ≡ lineOf key 1 noMinus line) (fits : LineFits line 1 l) where
   pub no-line : l .ok ≡ false → numberAfter key line ≡ Other
-  unfolding numberAfter seenLine
-  no-line t = let q : lineOf key 1 noMinus line ≡ bad = sym e ∙ rw t in rw q
+  unfolding numberAfter
+  no-line t = rw (seen-bad line 1 l e t)
 
   module _ (t : l .ok ≡ true) where
     got : lineOf key 1 noMinus line ≡ fields (take 1 (l .values)) (drop (l .next) line)
-    unfolding seenLine
-    got = sym e ∙ rw t
+    got = seen-fields line 1 l e t
 
     pub more-after : l .next < length line → numberAfter key line ≡ Other
     unfolding numberAfter
     more-after h = rw (got, drop-cons line (l .next) 0 h)
 
-    -- a number is read back from its bits
-    value : toZ w32 (ofZ w32 (getD (l .values) 0 (pos 0))) ≡ getD (take 1 (l .values)) 0 (pos 0)
-    value = kept (four-digits (getD (l .values) 0 (pos 0)) (fits .small 0)) ∙ sym (getD-take 1 (l .values) 0 (pos 0) (omega arith))
-
-    pub number : length line ≤ l .next → numberAfter key line ≡ Number (natAbs (toZ w32 (ofZ w32 (getD (l .values) 0 (pos 0)))))
+    pub number : length line ≤ l .next → numberAfter key line ≡ Number (natAbs (bits l 0))
     unfolding numberAfter
-    number h = rw (got, drop-of-length-le line h, value)
+    number h = rw (got, drop-of-length-le line h, bits-at fits 0 (omega arith))
 
     -- its cast to an unsigned number
-    pub whole : T (nonNeg (toZ w32 (ofZ w32 (getD (l .values) 0 (pos 0))))) × Fits w64 (natAbs (toZ w32 (ofZ w32 (getD (l .values) 0 (pos 0)))))
-    whole = rw value (first-whole (take 1 (l .values)) (line-text key 1 noMinus line _ _ got .good))
+    pub whole : T (nonNeg (bits l 0)) × Fits w64 (natAbs (bits l 0))
+    whole = cast-at key 1 noMinus line line l got fits 0 (λ z. absurd (omega arith))
 
 -- ---- one word more
 

@@ -41,7 +41,7 @@ array-copy-out-t15 c = search needs
 cast-t16 : tie.Need-cast-t16
 cast-t16 c =
     let r = c .before .before .before .before in
-    cast-at (edgeKind (r .before .before .before .args .ops)) _ (r .before .before .before .args .at) _ (r .read-line .ensures .0) (r .read-line .ensures .1) (c .before .before .if1 .left) 0 (omega arith) (λ z. absurd (omega arith))
+    cast-at (edgeKind (r .before .before .before .args .ops)) _ (r .before .before .before .args .at) _ (r .read-line .ensures .0) (r .read-line .ensures .1) (c .before .before .if1 .left) 0 (λ z. absurd (omega arith))
 
 array-copy-out-t19 : tie.Need-array-copy-out-t19
 array-copy-out-t19 c = search needs
@@ -49,7 +49,7 @@ array-copy-out-t19 c = search needs
 cast-t20 : tie.Need-cast-t20
 cast-t20 c =
     let r = c .before .before .before .before .before in
-    cast-at (edgeKind (r .before .before .before .args .ops)) _ (r .before .before .before .args .at) _ (r .read-line .ensures .0) (r .read-line .ensures .1) (c .before .before .before .if1 .left) 1 (omega arith) (λ z. absurd (omega arith))
+    cast-at (edgeKind (r .before .before .before .args .ops)) _ (r .before .before .before .args .at) _ (r .read-line .ensures .0) (r .read-line .ensures .1) (c .before .before .before .if1 .left) 1 (λ z. absurd (omega arith))
 
 array-copy-out-t23 : tie.Need-array-copy-out-t23
 array-copy-out-t23 c = search needs
@@ -60,7 +60,7 @@ array-copy-out-t26 c = search needs
 cast-t27 : tie.Need-cast-t27
 cast-t27 c =
     let r = c .before .before .before .before .before .before .before in
-    cast-at (edgeKind (r .before .before .before .args .ops)) _ (r .before .before .before .args .at) _ (r .read-line .ensures .0) (r .read-line .ensures .1) (c .before .before .before .before .before .if1 .left) 3 (omega arith) (λ z. absurd (omega arith))
+    cast-at (edgeKind (r .before .before .before .args .ops)) _ (r .before .before .before .args .at) _ (r .read-line .ensures .0) (r .read-line .ensures .1) (c .before .before .before .before .before .if1 .left) 3 (λ z. absurd (omega arith))
 
 edge-answer-requires : tie.Need-edge-answer-requires
 edge-answer-requires c κs = search needs

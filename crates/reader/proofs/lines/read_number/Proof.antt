@@ -31,7 +31,7 @@ array-copy-out-value c = search needs
 cast-value : tie.Need-cast-value
 cast-value c =
     let r = c .before .before .before .before in
-    cast-at (numberKind (r .before .before .before .args .key .now) (r .before .before .before .args .field)) _ (r .before .before .before .args .at) _ (r .read-line .ensures .0) (r .read-line .ensures .1) (c .before .before .if1 .left) 0 (omega arith) (λ z. absurd (omega arith))
+    cast-at (numberKind (r .before .before .before .args .key .now) (r .before .before .before .args .field)) _ (r .before .before .before .args .at) _ (r .read-line .ensures .0) (r .read-line .ensures .1) (c .before .before .if1 .left) 0 (λ z. absurd (omega arith))
 
 number-answer-requires : tie.Need-number-answer-requires
 number-answer-requires c κs = search needs

@@ -45,7 +45,7 @@ array-copy-out-resource c = search needs
 cast-resource : tie.Need-cast-resource
 cast-resource c =
     let r = c .before .before .before .before in
-    cast-at (opKind (r .before .before .before .args .types) (r .before .before .before .args .horizon)) _ (r .before .before .before .args .at) _ (r .read-line .ensures .0) (r .read-line .ensures .1) (c .before .before .if1 .left) 0 (omega arith) (λ z. absurd (omega arith))
+    cast-at (opKind (r .before .before .before .args .types) (r .before .before .before .args .horizon)) _ (r .before .before .before .args .at) _ (r .read-line .ensures .0) (r .read-line .ensures .1) (c .before .before .if1 .left) 0 (λ z. absurd (omega arith))
 
 array-copy-out-lo : tie.Need-array-copy-out-lo
 array-copy-out-lo c = search needs
@@ -53,7 +53,7 @@ array-copy-out-lo c = search needs
 cast-lo : tie.Need-cast-lo
 cast-lo c =
     let r = c .before .before .before .before .before in
-    cast-at (opKind (r .before .before .before .args .types) (r .before .before .before .args .horizon)) _ (r .before .before .before .args .at) _ (r .read-line .ensures .0) (r .read-line .ensures .1) (c .before .before .before .if1 .left) 1 (omega arith) (λ z. absurd (omega arith))
+    cast-at (opKind (r .before .before .before .args .types) (r .before .before .before .args .horizon)) _ (r .before .before .before .args .at) _ (r .read-line .ensures .0) (r .read-line .ensures .1) (c .before .before .before .if1 .left) 1 (λ z. absurd (omega arith))
 
 array-copy-out-hi : tie.Need-array-copy-out-hi
 array-copy-out-hi c = search needs
@@ -61,7 +61,7 @@ array-copy-out-hi c = search needs
 cast-hi : tie.Need-cast-hi
 cast-hi c =
     let r = c .before .before .before .before .before .before in
-    cast-at (opKind (r .before .before .before .args .types) (r .before .before .before .args .horizon)) _ (r .before .before .before .args .at) _ (r .read-line .ensures .0) (r .read-line .ensures .1) (c .before .before .before .before .if1 .left) 2 (omega arith) (λ z. absurd (omega arith))
+    cast-at (opKind (r .before .before .before .args .types) (r .before .before .before .args .horizon)) _ (r .before .before .before .args .at) _ (r .read-line .ensures .0) (r .read-line .ensures .1) (c .before .before .before .before .if1 .left) 2 (λ z. absurd (omega arith))
 
 op-answer-requires : tie.Need-op-answer-requires
 op-answer-requires c κs = search needs

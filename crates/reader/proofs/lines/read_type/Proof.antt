@@ -41,7 +41,7 @@ array-copy-out-t14 c = search needs
 cast-t15 : tie.Need-cast-t15
 cast-t15 c =
     let r = c .before .before .before .before in
-    cast-at typeKind _ (r .before .before .before .args .at) _ (r .read-line .ensures .0) (r .read-line .ensures .1) (c .before .before .if1 .left) 0 (omega arith) (λ z. absurd (omega arith))
+    cast-at typeKind _ (r .before .before .before .args .at) _ (r .read-line .ensures .0) (r .read-line .ensures .1) (c .before .before .if1 .left) 0 (λ z. absurd (omega arith))
 
 array-copy-out-t18 : tie.Need-array-copy-out-t18
 array-copy-out-t18 c = search needs
@@ -49,7 +49,7 @@ array-copy-out-t18 c = search needs
 cast-t19 : tie.Need-cast-t19
 cast-t19 c =
     let r = c .before .before .before .before .before in
-    cast-at typeKind _ (r .before .before .before .args .at) _ (r .read-line .ensures .0) (r .read-line .ensures .1) (c .before .before .before .if1 .left) 1 (omega arith) (λ z. absurd (omega arith))
+    cast-at typeKind _ (r .before .before .before .args .at) _ (r .read-line .ensures .0) (r .read-line .ensures .1) (c .before .before .before .if1 .left) 1 (λ z. absurd (omega arith))
 
 type-answer-requires : tie.Need-type-answer-requires
 type-answer-requires c κs = search needs
