@@ -2,8 +2,7 @@
 // buffer. `words` says what is asked for; the program `ask` prints these bytes.
 ghost use Prim.Native.Nat.{_≤_};
 ghost use Rattle.text.specs.Sizes.{greatestNumber};
-ghost use Rattle.sheet.specs.Sheet.{InRange};
-ghost use Rattle.round_trip.specs.Accepted.{Arrays};
+ghost use Rattle.sheet.specs.Sheet.{InRange, Arrays};
 ghost use Rattle.commands.specs.Listing.{refusalLines};
 ghost use Rattle.commands.specs.Prints.{Put, Serves, Answered, AnsweredPage};
 ghost use Rattle.commands.specs.Shows.{Shows};

@@ -2,18 +2,11 @@
 use mathlib.Core.Path.{_≡_}
 use mathlib.Core.List.{List}
 use Prim.Native.Nat.{ℕ}
-use lib.ListN.{length, take}
-use Rattle.sizes.specs.Sizes.{mostTypes, mostOperations, mostEdges}
+use lib.ListN.{take}
 use Rattle.sheet.specs.declared.Sheet.{Sheet}
-use Rattle.sheet.specs.Sheet.{InRange}
+use Rattle.sheet.specs.Sheet.{Arrays, InRange}
 use Rattle.sheet.specs.Text.{sheetText}
 use Rattle.reader.specs.Read.{sheetOf, accepted, readOf}
-
--- the arrays of a sheet are as long as they are declared
-pub record Arrays (s : Sheet) : Type 0 where
-  pub types : length (s .types) ≡ mostTypes
-  pub ops : length (s .ops) ≡ mostOperations
-  pub edges : length (s .edges) ≡ mostEdges
 
 -- the sheet with 0 past its counts
 abbrev pub trimmed : Sheet → Sheet

@@ -21,7 +21,7 @@ use Rattle.sheet.specs.declared.Operation.{Operation}
 use Rattle.sheet.specs.declared.ResourceType.{ResourceType}
 use Rattle.sheet.specs.Facts.{most}
 use Rattle.sheet.specs.Ranges as range
-use Rattle.sheet.specs.Sheet.{noType, noOperation, TypeInRange, OpInRange, NonEmptyWindow, EdgeInRange, InRange}
+use Rattle.sheet.specs.Sheet.{noType, noOperation, TypeInRange, OpInRange, NonEmptyWindow, EdgeInRange, InRange, Arrays}
 use Rattle.sheet.specs.Text.{typeLine, opLine, edgeLine, sheetLines, sheetText}
 use Rattle.reader.specs.declared.ReadAnswer.{ReadAnswer}
 use Rattle.reader.specs.Found.{Found, found, refused, Kind, lineFrom, sectionFrom, padded}
@@ -31,7 +31,7 @@ use Rattle.sheet.specs.AnswerLaws.{number-judged, type-judged, op-judged, edge-
 use Rattle.reader.specs.Steps.{line-inside}
 use Rattle.reader.specs.Refusals.{not-refused}
 use Rattle.reader.specs.Whole.{too-long, stops-horizon, stops-cap, stops-types, stops-ops, stops-edges, whole, something-more, read-of}
-use Rattle.round_trip.specs.Accepted.{Arrays, trimmed, Accepted}
+use Rattle.round_trip.specs.Accepted.{trimmed, Accepted}
 use Rattle.round_trip.specs.All.{all-take, all-at}
 use Rattle.round_trip.specs.Lawful.{Lawful, number-lawful, type-lawful, op-lawful, edge-lawful}
 use Rattle.round_trip.specs.Lines.{entryText, entriesText, AllInside, reads-entry, entry-text, reads-section, section-text}

@@ -1,36 +1,29 @@
 -- Entries past R, N or E are no part of a sheet: sheets that differ only there are written alike. Assumes nothing.
-use mathlib.Core.Path.{_≡_, sym, ap, ap₂, subst, _∙_}
+use mathlib.Core.Path.{_≡_, sym, ap, subst, _∙_}
 use mathlib.Core.List.{List, _∷_, _++_, map}
 use Prim.Native.Nat.{ℕ, _<_, _≤_}
 use native.Mathlib.Omega.{arith}
 use lib.ListN.{getD, length, take}
 use lib.Seq.{ext-getD, getD-take, length-take-le}
-use Rattle.sizes.specs.Sizes.{mostTypes, mostOperations, mostEdges}
 use Rattle.text.specs.declared.Written.{Written}
 use Rattle.text.specs.Text.{bufferOf}
 use Rattle.text.specs.Line.{refused, writtenOf}
-use Rattle.text.specs.Lines.{Line, linesText, countLine}
+use Rattle.text.specs.Lines.{linesText, countLine}
 use Rattle.text.specs.Keys as key
 use Rattle.dependence.specs.Graph.{noEdge}
 use Rattle.sheet.specs.declared.Sheet.{Sheet}
-use Rattle.sheet.specs.Sheet.{noType, noOperation, InRange}
+use Rattle.sheet.specs.Sheet.{noType, noOperation, Arrays, InRange}
 use Rattle.sheet.specs.Facts.{types-most, ops-most, edges-most}
 use Rattle.sheet.specs.Text.{typeLine, opLine, edgeLine, sheetLines, sheetText}
 use Rattle.sheet.specs.Entries.{SameSheet, turn, range-same, answer-same}
 use Rattle.writer.specs.Wrote.{Wrote, out-of-range, in-range}
-
--- the arrays have the sizes that those of every sheet have
-pub record Sized (s : Sheet) : Type 0 where
-  pub types : length (s .types) ≡ mostTypes
-  pub ops : length (s .ops) ≡ mostOperations
-  pub edges : length (s .edges) ≡ mostEdges
 
 take-same : {A : Type 0} (d : A) (n : ℕ) (xs ys : List A) → n ≤ length xs → n ≤ length ys → ((i : ℕ) → i < n → getD xs i d ≡ getD ys i d) → take n xs ≡ take n ys
 take-same d n xs ys h k e =
     ext-getD d (take n xs) (take n ys) (length-take-le n xs h ∙ sym (length-take-le n ys k))
     (λ i l. let j : i < n = omega (arith, length-take-le n xs h, l) in getD-take n xs i d j ∙ e i j ∙ sym (getD-take n ys i d j))
 
-module _ {s s' : Sheet} (e : SameSheet s s') (a : Sized s) (b : Sized s') where
+module _ {s s' : Sheet} (e : SameSheet s s') (a : Arrays s) (b : Arrays s') where
   lines-same : InRange s → sheetLines s ≡ sheetLines s'
   unfolding sheetLines
   lines-same ok =

@@ -4,11 +4,10 @@ use Prim.Native.Nat.{ℕ}
 use mathlib.Core.Path.{_≡_, sym, ap, subst, _∙_}
 use Rattle.text.specs.Lines.{linesText}
 use Rattle.sheet.specs.declared.Sheet.{Sheet}
-use Rattle.sheet.specs.Sheet.{InRange}
+use Rattle.sheet.specs.Sheet.{InRange, Arrays}
 use Rattle.reader.specs.declared.ReadAnswer.{ReadAnswer}
 use Rattle.reader.specs.Read.{readOf}
 use Rattle.reader.specs.FaultLaws.{fault-small}
-use Rattle.round_trip.specs.Accepted.{Arrays}
 use Rattle.round_trip.specs.RoundTrip.{only-text}
 use Rattle.report.specs.Reading.{read-small}
 use Rattle.commands.specs.Listing.{refusalLines}
