@@ -14,6 +14,7 @@ use Rattle.text.specs.Line.{writtenOf}
 use Rattle.text.specs.Writing.{written-within}
 use Rattle.text.specs.Keys.{orderKey}
 use Rattle.text.specs.Lines.{Line, countLine, linesText}
+use Rattle.text.specs.Answers.{answerLine, intervalLine, loopLine}
 use Rattle.lines.specs.declared.Lines.{Lines}
 use Rattle.lines.specs.Lines.{shown}
 use Rattle.lines.specs.Shown.{shown-most}
@@ -30,7 +31,7 @@ use Rattle.plan.specs.declared.PlanAnswer.{PlanAnswer}
 use Rattle.plan.specs.Answers.{refused, PlanAt}
 use Rattle.slot_order.specs.declared.SlotOrder.{SlotOrder}
 use Rattle.page.specs.Answers.{planPage}
-use Rattle.report.specs.Print.{answerLine, intervalLine, loopLine, intervalLines}
+use Rattle.report.specs.Print.{intervalLines}
 use Rattle.report.specs.PlanText.{planText}
 use Rattle.report.specs.IntervalText.{IntervalText, refusal, lines, asked-unique}
 use Rattle.report.specs.Small.{small}

@@ -1,5 +1,5 @@
--- What a command prints of each answer, line by line or as a page. Every line that leastplan prints too is that of
--- `report/Print`.
+-- What a command prints of each answer, line by line or as a page. The lines that leastplan prints too are those of
+-- `text/Answers` and `report/Print`.
 use Prim.Native.Nat.{ℕ}
 use mathlib.Core.Bool.{cond}
 use mathlib.Core.List.{List, [], _∷_, _++_}
@@ -8,9 +8,11 @@ use lib.IntN.{ℤ}
 use lib.ListN.{take}
 use lib.Signed.{leZ}
 use Rattle.laws.specs.Entry.{vec, cell}
+use Rattle.laws.specs.Each.{each}
 use Rattle.text.specs.Keys as key
 use Rattle.text.specs.Lines.{Line, linesText, countLine}
 use Rattle.text.specs.Text.{noNumber}
+use Rattle.text.specs.Answers.{answerLine, intervalLine, loopLine}
 use Rattle.walks.specs.Found.{noWalk}
 use Rattle.dependence.specs.declared.bound.Bound as recurrence
 use Rattle.dependence.specs.declared.loops.BadWalk as loops
@@ -20,7 +22,7 @@ use Rattle.plan.specs.declared.PlanAnswer.{PlanAnswer}
 use Rattle.slot_order.specs.declared.SlotOrder.{SlotOrder}
 use Rattle.sheet.specs.declared.Sheet.{Sheet}
 use Rattle.page.specs.Answers.{planPage}
-use Rattle.report.specs.Print.{answerLine, intervalLine, loopLine, each, intervalLines}
+use Rattle.report.specs.Print.{intervalLines}
 use Rattle.words.specs.declared.Command.{Command}
 use Rattle.words.specs.declared.Command.the-variants.{Bounds, Starts, Separations, Plan, Page, Order, Check, Write}
 

@@ -9,8 +9,10 @@ use lib.ListN.{length, take, length-take, List·getD-eq-default}
 use lib.Seq.{length-take-le, getD-take}
 use borrow.Author.Tests.{eq-eqb}
 use Rattle.laws.specs.Entry.{vec}
+use Rattle.laws.specs.Each.{each}
 use Rattle.text.specs.Sizes.{fourDigits}
 use Rattle.text.specs.Lines.{Line, linesText}
+use Rattle.text.specs.Answers.{answerLine, intervalLine, atLine}
 use Rattle.plan_lines.specs.Lines.{planOf, given}
 use Rattle.plan_lines.specs.Text.{atLines, linesFor, Small}
 use Rattle.plan_lines.specs.RoundTrip.{reads-back}
@@ -19,7 +21,7 @@ use Rattle.sheet.specs.Facts.{ops-most}
 use Rattle.plan.specs.declared.PlanAnswer.{PlanAnswer}
 use Rattle.plan.specs.Answers.{PlanAt}
 use Rattle.plan.specs.Exactly.{accepted-given}
-use Rattle.report.specs.Print.{answerLine, intervalLine, atLine, each, detail, intervalLines}
+use Rattle.report.specs.Print.{detail, intervalLines}
 use Rattle.report.specs.PlanText.{planText}
 use Rattle.report.specs.Small.{SmallList, small}
 

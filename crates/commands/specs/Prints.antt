@@ -8,6 +8,7 @@ use Rattle.text.specs.declared.Written.{Written}
 use Rattle.text.specs.Text.{bufferOf}
 use Rattle.text.specs.Line.{writtenOf}
 use Rattle.text.specs.Lines.{linesText}
+use Rattle.text.specs.Answers.{answerLine}
 use Rattle.dependence.specs.declared.bound.Bound as recurrence
 use Rattle.dependence.specs.declared.loops.BadWalk as loops
 use Rattle.dependence.specs.declared.starts.Starts as earliest
@@ -24,7 +25,6 @@ use Rattle.plan.specs.Answers.{PlanAt}
 use Rattle.slot_order.specs.declared.SlotOrder.{SlotOrder}
 use Rattle.slot_order.specs.Answers.{SlotOrderAt}
 use Rattle.page.specs.Answers.{planPage, IfTabled}
-use Rattle.report.specs.Print.{answerLine}
 use Rattle.words.specs.declared.Command.{Command}
 use Rattle.words.specs.declared.Command.the-variants.{Bounds, Starts, Separations, Plan, Page, Order, Check, Write}
 use Rattle.commands.specs.Listing.{boundsLines, startsLines, separationsLines, planLines, orderLines, firstPage, refusalLines}

@@ -1,14 +1,14 @@
 -- Laws of a list of lines that is made line by line: which lines its text is that of.
 -- Assumes nothing.
-use mathlib.Core.Path.{_≡_, refl, sym, ap, ap₂, subst, _∙_}
+use mathlib.Core.Path.{_≡_, refl, sym, ap, subst, _∙_}
 use mathlib.Core.List.{List, [], _∷_, _++_, append-nil}
-use Prim.Native.Nat.{ℕ, zero, suc, _+_, _≤_, _<_, min}
+use Prim.Native.Nat.{ℕ, _+_, _≤_, _<_, min}
 use native.Mathlib.Omega.{arith}
-use native.Mathlib.Numerals.{add-one}
-use lib.IntN.{ℤ, pos}
-use lib.ListN.{length, take, length-append}
+use lib.IntN.{pos}
+use lib.ListN.{length, length-append}
 use Rattle.sizes.specs.Sizes.{mostOperations}
-use Rattle.laws.specs.Entry.{vec, at}
+use Rattle.laws.specs.Entry.{vec}
+use Rattle.laws.specs.Each.{each, each-length, each-more}
 use Rattle.text.specs.Sizes.{mostValues, greatestNumber}
 use Rattle.text.specs.Text.{lineText}
 use Rattle.text.specs.declared.Line as made
@@ -19,8 +19,6 @@ use Rattle.text.specs.Filling.{lines-append}
 use Rattle.lines.specs.declared.Lines.{Lines}
 use Rattle.lines.specs.Lines.{mostLines, shown, noLines, withLine}
 use Rattle.lines.specs.Shown.{Whole, none-shown, none-whole, with-count, with-shown, with-whole}
-use Rattle.report.specs.Print.{each}
-use Rattle.report.specs.Places.{each-length}
 
 -- the list shows these lines
 pub record Shows (ls : Lines) (want : List Line) : Type 0 where
@@ -81,24 +79,9 @@ one key n l h e = one-number (keyOf key) n h e
 
 -- ---- one line for each operation
 
-each-next : {A : Type 0} (n : ℕ) (f : ℕ → A) → each (suc n) f ≡ each n f ++ (f n ∷ [])
-unfolding each
-each-next zero f = refl
-each-next {A} (suc n) f = ap (λ (l : List A). f 0 ∷ l) (each-next n (λ i. f (suc i)))
-
-pub each-more : {A : Type 0} (n : ℕ) (f : ℕ → A) → each (n + 1) f ≡ each n f ++ (f n ∷ [])
-each-more n f = rw add-one (each-next n f)
-
 -- one more of them, after two lines
 pub each-added : {a b : Line} (f : ℕ → Line) {ls r : Lines} {i : ℕ} → Shows ls (a ∷ b ∷ each i f) → i < mostOperations → (l : made.Line) → length (l .values) ≡ mostValues
     → textOf l ≡ lineTextOf (f i) → r ≡ withLine ls l → Shows r (a ∷ b ∷ each (i + 1) f)
 each-added {a} {b} f {r = r} {i} s h l w e q =
     let n = each-length i f in
     subst (λ (x : List Line). Shows r (a ∷ b ∷ x)) (sym (each-more i f)) (added s (omega arith) l (f i) w e q)
-
--- the first numbers of an array, one by one
-pub each-take : (n : ℕ) (vs : List ℤ) (f : ℕ → ℤ) → n ≤ length vs → ((k : ℕ) → k < n → at vs k ≡ f k) → take n vs ≡ each n f
-unfolding each
-each-take zero vs f h e = refl
-each-take (suc n) [] f h e = absurd (omega arith)
-each-take (suc n) (v ∷ vs) f h e = ap₂ (λ (z : ℤ) (l : List ℤ). z ∷ l) (e 0 (omega arith)) (each-take n vs (λ k. f (suc k)) (omega arith) (λ k l. e (suc k) (omega arith)))

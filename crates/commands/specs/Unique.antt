@@ -1,12 +1,13 @@
 -- At most one text fits a command and the bytes of a sheet, or those and a plan, and so one answer and one buffer; and
 -- `write` gives the sheet's own bytes back. Assumes nothing.
 use mathlib.Core.Path.{_≡_, refl, sym, ap, ap₂, _∙_}
-use mathlib.Core.List.{List, _∷_}
-use Prim.Native.Nat.{ℕ, zero, suc, _<_}
+use mathlib.Core.List.{List}
+use Prim.Native.Nat.{ℕ, _<_}
 use native.Mathlib.Omega.{arith}
 use lib.IntN.{ℤ}
 use Rattle.sizes.specs.Sizes.{mostOperations}
 use Rattle.laws.specs.Entry.{cell}
+use Rattle.laws.specs.Each.{each-same}
 use Rattle.text.specs.declared.Written.{Written}
 use Rattle.text.specs.Text.{bufferOf}
 use Rattle.text.specs.Line.{writtenOf}
@@ -29,18 +30,12 @@ use Rattle.plan.specs.declared.PlanAnswer.{PlanAnswer}
 use Rattle.plan.specs.Unique.{plan-at-unique, resource-unique}
 use Rattle.slot_order.specs.declared.SlotOrder.{SlotOrder}
 use Rattle.slot_order.specs.Unique.{slot-order-unique}
-use Rattle.report.specs.Print.{each}
 use Rattle.report.specs.Reading.{read-in-range}
 use Rattle.words.specs.declared.Command.{Command}
 use Rattle.words.specs.declared.Command.the-variants.{Write}
 use Rattle.commands.specs.Listing.{cellOf, rowLine, boundsLines, startsLines, separationsLines, planLines, orderLines, firstPage, answerAt}
 use Rattle.commands.specs.Prints as prints
 use Rattle.commands.specs.Prints.{Serves, Prints, refusalText, PrintsPage, Put, Answered, AnsweredPage}
-
-each-same : {A : Type 0} (n : ℕ) (f g : ℕ → A) → ((i : ℕ) → i < n → f i ≡ g i) → each n f ≡ each n g
-unfolding each
-each-same zero f g h = refl
-each-same {A} (suc n) f g h = ap₂ (λ (x : A) (l : List A). x ∷ l) (h 0 (omega arith)) (each-same n (λ i. f (suc i)) (λ i. g (suc i)) (λ i l. h (suc i) (omega arith)))
 
 module _ {s : Sheet} (ok : InRange s) where
   -- one table, cell by cell

@@ -7,7 +7,7 @@ ghost use Rattle.lines.specs.Lines.{mostLines};
 ghost use Rattle.text.specs.Lines.{Line};
 ghost use Rattle.text.specs.Line.{keyOf};
 ghost use Rattle.text.specs.Sizes.{greatestNumber};
-ghost use Rattle.report.specs.Print.{answerLine, intervalLine, loopLine};
+ghost use Rattle.text.specs.Answers.{answerLine, intervalLine, loopLine};
 ghost use Rattle.commands.specs.Listing.{boundLines, answerAt, denialLines};
 ghost use Rattle.commands.specs.Shows.{Shows, Printable, Sized};
 use lines::Lines;

@@ -1,13 +1,14 @@
 // The rows of the separation table as lines: N sums, and the mark "no number" where there is no walk.
 ghost use mathlib.Core.Path.{_≡_};
-ghost use mathlib.Core.List.{[], _∷_};
+ghost use mathlib.Core.List.{_∷_};
 ghost use Prim.Native.Nat.{_≤_};
 ghost use Rattle.sizes.specs.Sizes.{mostOperations};
 ghost use Rattle.laws.specs.Entry.{at, cell};
+ghost use Rattle.laws.specs.Each.{each};
 ghost use Rattle.text.specs.Sizes.{greatestNumber};
 ghost use Rattle.text.specs.Line.{textOf};
 ghost use Rattle.text.specs.Lines.{lineTextOf};
-ghost use Rattle.report.specs.Print.{answerLine, intervalLine, each};
+ghost use Rattle.text.specs.Answers.{answerLine, intervalLine};
 ghost use Rattle.commands.specs.Listing.{cellOf, rowLine};
 ghost use Rattle.commands.specs.Shows.{Shows};
 use crate::parts::headed;

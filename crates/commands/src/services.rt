@@ -1,11 +1,12 @@
 // The lines of each service's answer about a sheet that was read.
-ghost use mathlib.Core.List.{[], _∷_};
+ghost use mathlib.Core.List.{_∷_};
 ghost use Prim.Native.Nat.{_≤_};
 ghost use Rattle.sizes.specs.Sizes.{mostOperations};
 ghost use Rattle.laws.specs.Entry.{vec};
+ghost use Rattle.laws.specs.Each.{each};
 ghost use Rattle.text.specs.Sizes.{greatestNumber};
+ghost use Rattle.text.specs.Answers.{answerLine, intervalLine};
 ghost use Rattle.sheet.specs.Sheet.{InRange};
-ghost use Rattle.report.specs.Print.{answerLine, intervalLine, each};
 ghost use Rattle.commands.specs.Listing.{startLine};
 ghost use Rattle.commands.specs.Shows.{Shows, Lists, Printable};
 ghost use Rattle.commands.specs.Prints.{Serves};

@@ -12,9 +12,10 @@ use Rattle.sizes.specs.Sizes.{mostOperations}
 use Rattle.laws.specs.Tests.{by-test}
 use Rattle.laws.specs.Z.{true-false}
 use Rattle.text.specs.Keys.{answerKey, intervalKey, atKey}
-use Rattle.text.specs.Lines.{linesText, countLine}
+use Rattle.text.specs.Lines.{linesText}
 use Rattle.text.specs.Sizes.{fourDigits}
 use Rattle.text.specs.Text.{lineText}
+use Rattle.text.specs.Answers.{intervalLine}
 use Rattle.scan.specs.Line.{Fields, fields, bad, noMinus, lineOf}
 use Rattle.scan.specs.RoundTrip.{Writable, reads-line, line-text}
 use Rattle.plan_lines.specs.Lines.{given, placesFrom, planOf}
@@ -43,7 +44,7 @@ reads-places (suc k) L ts us (p ∷ ps) (q ∷ qs) e h a b =
 pub reads-back : (L : ℕ) (ts us : List ℕ) → Showable L ts us → planOf (linesText (linesFor L ts us)) ≡ given L ts us
 unfolding linesText
 reads-back L ts us w =
-    let rest = linesText (countLine intervalKey L ∷ atLines ts us) in
+    let rest = linesText (intervalLine L ∷ atLines ts us) in
     let a = reads-line answerKey noMinus (pos 0 ∷ []) rest (omega arith, refl, tt) in
     let l = reads-line intervalKey noMinus (pos L ∷ []) (linesText (atLines ts us)) (w .interval, refl, tt) in
     places _ 0 _ a refl L _ l
@@ -155,7 +156,7 @@ module _ (bs : List ℕ) (L : ℕ) (ts us : List ℕ) (plan : planOf bs ≡ give
   -- the line `interval=` and the rest, at its case, after the answer 0
   interval-at : (b₁ : List ℕ) (n : Fields) → lineOf answerKey 1 noMinus bs ≡ fields (pos 0 ∷ []) b₁
       → lineOf intervalKey 1 noMinus b₁ ≡ n
-      → (b₁ ≡ linesText (countLine intervalKey L ∷ atLines ts us)) × Showable L ts us
+      → (b₁ ≡ linesText (intervalLine L ∷ atLines ts us)) × Showable L ts us
   unfolding linesText
   interval-at b₁ bad e₁ e = absurd (no-plan (sym plan ∙ no-interval bs 0 b₁ e₁ refl e))
   interval-at b₁ (fields vs b₂) e₁ e =

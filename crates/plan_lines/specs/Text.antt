@@ -2,17 +2,12 @@
 use Prim.Native.Nat.{ℕ, _≤_}
 use mathlib.Core.Path.{_≡_}
 use mathlib.Core.List.{List, [], _∷_}
-use lib.IntN.{pos}
 use lib.ListN.{length}
 use Rattle.sizes.specs.Sizes.{mostOperations}
 use Rattle.laws.specs.Entry.{vec}
-use Rattle.text.specs.Keys.{answerKey, intervalKey, atKey}
-use Rattle.text.specs.Lines.{Line, countLine}
+use Rattle.text.specs.Lines.{Line}
 use Rattle.text.specs.Sizes.{fourDigits}
-
--- `at=t,u`
-abbrev pub atLine : ℕ → ℕ → Line
-atLine t u = record { key = atKey; values = pos t ∷ pos u ∷ [] }
+use Rattle.text.specs.Answers.{answerLine, intervalLine, atLine}
 
 -- one for each start and its instance
 unfoldable pub atLines : List ℕ → List ℕ → List Line
@@ -22,7 +17,7 @@ atLines (t ∷ ts) (u ∷ us) = atLine t u ∷ atLines ts us
 
 -- the lines of a plan
 abbrev pub linesFor : ℕ → List ℕ → List ℕ → List Line
-linesFor L ts us = countLine answerKey 0 ∷ countLine intervalKey L ∷ atLines ts us
+linesFor L ts us = answerLine 0 ∷ intervalLine L ∷ atLines ts us
 
 -- each number has at most four digits
 abbrev pub Small : List ℕ → Type 0

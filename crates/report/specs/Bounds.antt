@@ -9,14 +9,16 @@ use lib.IntN.{pos}
 use lib.ListN.{length, take, length-take, length-map}
 use Rattle.sizes.specs.Sizes.{mostOperations}
 use Rattle.laws.specs.Entry.{vec}
+use Rattle.laws.specs.Each.{each}
 use Rattle.text.specs.Sizes.{threeDigits}
 use Rattle.text.specs.Keys as key
 use Rattle.text.specs.Text.{signedText}
 use Rattle.text.specs.Lines.{Line, lineTextOf, linesText}
 use Rattle.text.specs.Bounds.{Within, natural-most, line-most, cons-length, nil-length}
+use Rattle.text.specs.Answers.{answerLine, intervalLine, loopLine, atLine}
 use Rattle.sheet.specs.declared.Sheet.{Sheet}
 use Rattle.plan.specs.declared.PlanAnswer.{PlanAnswer}
-use Rattle.report.specs.Print.{answerLine, intervalLine, loopLine, atLine, each, detail, intervalLines}
+use Rattle.report.specs.Print.{detail, intervalLines}
 use Rattle.report.specs.Small.{SmallList, SmallAnswer}
 use Rattle.report.specs.Places.{detail-0, detail-5, detail-else}
 

@@ -7,15 +7,17 @@ use Prim.Native.Nat.{ℕ}
 use lib.Dec.{eqb}
 use lib.ListN.{take}
 use Rattle.laws.specs.Entry.{vec}
+use Rattle.laws.specs.Each.{each}
 use Rattle.text.specs.Text.{bufferOf}
 use Rattle.text.specs.Line.{writtenOf}
 use Rattle.text.specs.Lines.{linesText}
+use Rattle.text.specs.Answers.{answerLine, intervalLine, loopLine, atLine}
 use Rattle.sheet.specs.declared.Sheet.{Sheet}
 use Rattle.sheet.specs.Entries.{SameSheet}
 use Rattle.plan.specs.declared.PlanAnswer.{PlanAnswer}
 use Rattle.plan.specs.Entries.{plan-at-same}
 use Rattle.report.specs.declared.PlanWritten.{PlanWritten}
-use Rattle.report.specs.Print.{answerLine, intervalLine, loopLine, atLine, each, detail, intervalLines}
+use Rattle.report.specs.Print.{detail, intervalLines}
 use Rattle.report.specs.PlanText.{planText, edgeless, PlanText, refusal, text}
 
 module _ {s s' : Sheet} (e : SameSheet s s') where

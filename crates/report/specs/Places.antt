@@ -1,32 +1,23 @@
 -- Laws of the lines of one interval: how many they are, and which stands where.
 -- Assumes nothing.
-use mathlib.Core.Path.{_≡_, refl, ap, _∙_}
+use mathlib.Core.Path.{_≡_, ap, _∙_}
 use mathlib.Core.List.{List, [], _∷_}
-use Prim.Native.Nat.{ℕ, zero, suc, _+_, _-_, _≤_, _<_}
+use Prim.Native.Nat.{ℕ, suc, _+_, _-_, _≤_, _<_}
 use native.Mathlib.Omega.{arith}
 use native.Mathlib.Decide.{decLt}
 use lib.ListN.{length, getD, take}
 use borrow.Author.Tests.{eq-eqb, ne-eqb}
 use Rattle.laws.specs.Entry.{vec}
+use Rattle.laws.specs.Each.{each, each-length, each-at}
 use Rattle.text.specs.Lines.{Line, noLine}
+use Rattle.text.specs.Answers.{answerLine, intervalLine, loopLine, atLine}
 use Rattle.sheet.specs.declared.Sheet.{Sheet}
 use Rattle.plan.specs.declared.PlanAnswer.{PlanAnswer}
-use Rattle.report.specs.Print.{answerLine, intervalLine, loopLine, atLine, each, detail, intervalLines}
+use Rattle.report.specs.Print.{detail, intervalLines}
 
 -- the answer and the interval come first
 abbrev pub headLines : ℕ
 headLines = 2
-
-pub each-length : {A : Type 0} (n : ℕ) (f : ℕ → A) → length (each n f) ≡ n
-unfolding each
-each-length zero f = refl
-each-length (suc n) f = ap suc (each-length n (λ i. f (suc i)))
-
-each-at : (n : ℕ) (f : ℕ → Line) (i : ℕ) → i < n → getD (each n f) i noLine ≡ f i
-unfolding each
-each-at zero f i h = absurd (omega arith)
-each-at (suc n) f zero h = refl
-each-at (suc n) f (suc i) h = each-at n (λ i. f (suc i)) i (omega arith)
 
 module _ (s : Sheet) (L : ℕ) (a : PlanAnswer) where
   pub detail-0 : a .answer ≡ 0 → detail s a ≡ each (s .«op_count») (λ i. atLine (vec (a .starts) i) (vec (a .instances) i))
@@ -73,7 +64,7 @@ module _ (s : Sheet) (L : ℕ) (a : PlanAnswer) where
   pub at-place : (i : ℕ) → a .answer ≡ 0 → headLines ≤ i → i - headLines < s .«op_count» → getD (intervalLines s L a) i noLine ≡ atLine (vec (a .starts) (i - headLines)) (vec (a .instances) (i - headLines))
   at-place i e h g =
       past-two i h ∙ ap (λ (ls : List Line). getD ls (i - headLines) noLine) (detail-0 e)
-      ∙ each-at (s .«op_count») (λ k. atLine (vec (a .starts) k) (vec (a .instances) k)) (i - headLines) g
+      ∙ each-at (s .«op_count») (λ k. atLine (vec (a .starts) k) (vec (a .instances) k)) (i - headLines) noLine g
 
   -- past the first two lines, with no loop, there is a plan
   pub only-plan : (i : ℕ) → i < length (intervalLines s L a) → (a .answer ≡ 5 → ⊥) → headLines ≤ i → (a .answer ≡ 0) × (i - headLines < s .«op_count»)

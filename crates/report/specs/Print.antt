@@ -1,39 +1,18 @@
 -- What leastplan prints: the lines of one interval, and of a whole run.
-use Prim.Native.Nat.{ℕ, zero, suc, _<_, _≤_}
+use Prim.Native.Nat.{ℕ, suc, _<_, _≤_}
 use mathlib.Core.Path.{_≡_}
 use mathlib.Core.Bool.{cond}
-use mathlib.Core.List.{List, [], _∷_, _++_, map}
+use mathlib.Core.List.{List, [], _∷_, _++_}
 use lib.Dec.{eqb}
 use lib.ListN.{take}
-use lib.IntN.{pos}
 use Rattle.laws.specs.Entry.{vec}
-use Rattle.text.specs.Keys as key
-use Rattle.text.specs.Lines.{Line, countLine}
+use Rattle.laws.specs.Each.{each}
+use Rattle.text.specs.Lines.{Line}
+use Rattle.text.specs.Answers.{answerLine, intervalLine, loopLine, atLine}
 use Rattle.sheet.specs.declared.Sheet.{Sheet}
 use Rattle.reader.specs.Read.{readOf}
 use Rattle.plan.specs.declared.PlanAnswer.{PlanAnswer}
 use Rattle.plan.specs.Answers.{PlanAt}
-
--- `answer=` with 0 or the refusal
-abbrev pub answerLine : ℕ → Line
-answerLine n = countLine key.answerKey n
-
--- `interval=`
-abbrev pub intervalLine : ℕ → Line
-intervalLine L = countLine key.intervalKey L
-
--- `loop=` with edge numbers
-abbrev pub loopLine : List ℕ → Line
-loopLine ks = record { key = key.loopKey; values = map pos ks }
-
--- `at=t,u`
-abbrev pub atLine : ℕ → ℕ → Line
-atLine t u = record { key = key.atKey; values = pos t ∷ pos u ∷ [] }
-
--- one for each of n: a line for each operation, a number for each column
-unfoldable pub each : {A : Type 0} → ℕ → (ℕ → A) → List A
-each zero f = []
-each (suc n) f = f 0 ∷ each n (λ i. f (suc i))
 
 -- for 5 the loop, for 0 one line per operation
 unfoldable pub detail : Sheet → PlanAnswer → List Line

@@ -3,11 +3,12 @@
 use Prim.Native.Nat.{ℕ}
 use mathlib.Core.Path.{_≡_, sym, ap, subst, _∙_}
 use mathlib.Core.List.{[], _∷_}
+use Rattle.text.specs.Answers.{answerLine}
 use Rattle.sheet.specs.declared.Sheet.{Sheet}
 use Rattle.sheet.specs.Sheet.{InRange}
 use Rattle.reader.specs.declared.ReadAnswer.{ReadAnswer}
 use Rattle.reader.specs.Read.{readOf}
-use Rattle.report.specs.Print.{answerLine, Run, Printed, refused, read}
+use Rattle.report.specs.Print.{Run, Printed, refused, read}
 use Rattle.report.specs.Bounds.{answer-most}
 use Rattle.report.specs.Reading.{read-small, read-in-range}
 use Rattle.report.specs.Printing.{weaken}

@@ -9,7 +9,7 @@ use Rattle.text.specs.Keys.{answerKey}
 use Rattle.text.specs.Lines.{linesText}
 use Rattle.text.specs.Joined.{one-number}
 use Rattle.text.specs.Writing.{fitting}
-use Rattle.report.specs.Print.{answerLine}
+use Rattle.text.specs.Answers.{answerLine}
 use Rattle.report.specs.Bounds.{answer-most, answer-text}
 use native.Mathlib.Omega.{arith}
 use borrow.Author.Needs.{needs}

@@ -7,8 +7,9 @@ use mathlib.Core.List.{[], _∷_}
 use lib.ListN.{length}
 use Rattle.text.specs.Lines.{linesText}
 use Rattle.text.specs.Writing.{part-length}
+use Rattle.text.specs.Answers.{answerLine}
 use Rattle.sheet.specs.Facts.{cap-most}
-use Rattle.report.specs.Print.{answerLine, intervalLines, none, stops}
+use Rattle.report.specs.Print.{intervalLines, none, stops}
 use Rattle.report.specs.Small.{SmallAnswer, small}
 use Rattle.report.specs.Bounds.{answerMost, planMost, refusalMost, lines-most, refusal-most, answer-most, answer-short}
 use Rattle.report.specs.Printing.{Printing, start, same-size, more-size, finish, again, put-size}

@@ -5,9 +5,9 @@ use mathlib.Core.List.{[]}
 use lib.ListN.{length}
 use Rattle.text.specs.Sizes.{mostValues}
 use Rattle.text.specs.Line.{keyOf}
+use Rattle.text.specs.Answers.{answerLine}
 use Rattle.lines.specs.declared.Lines.{Lines}
 use Rattle.commands.specs.Shows.{Shows, nothing, added, one}
-use Rattle.report.specs.Print.{answerLine}
 use native.Mathlib.Omega.{arith}
 use borrow.Author.Needs.{needs}
 use Rattle.commands.proofs.parts.alone.Statement.{statement}

@@ -6,7 +6,7 @@ use lib.ListN.{length, length-append}
 use Rattle.text.specs.Sizes.{mostValues}
 use Rattle.text.specs.Line.{keyOf}
 use Rattle.text.specs.Lines.{Line, countLine}
-use Rattle.report.specs.Print.{answerLine}
+use Rattle.text.specs.Answers.{answerLine}
 use Rattle.commands.specs.Shows.{Shows, added, one}
 use Rattle.commands.specs.Answers.{bound-refused, bound-given}
 use native.Mathlib.Omega.{arith}

@@ -3,7 +3,7 @@
 use mathlib.Core.Path.{sym, subst}
 use mathlib.Core.List.{[], _∷_}
 use lib.ListN.{take}
-use Rattle.report.specs.Print.{answerLine}
+use Rattle.text.specs.Answers.{answerLine}
 use Rattle.commands.specs.Shows.{Shows}
 use Rattle.commands.specs.Answers.{denial-loop, denial-else}
 use native.Mathlib.Omega.{arith}

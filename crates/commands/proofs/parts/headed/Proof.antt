@@ -4,8 +4,8 @@ use mathlib.Core.Path.{_≡_}
 use lib.ListN.{length}
 use Rattle.text.specs.Sizes.{mostValues}
 use Rattle.text.specs.Line.{keyOf}
+use Rattle.text.specs.Answers.{intervalLine}
 use Rattle.commands.specs.Shows.{added, one}
-use Rattle.report.specs.Print.{intervalLine}
 use native.Mathlib.Omega.{arith}
 use borrow.Author.Needs.{needs}
 use Rattle.commands.proofs.parts.headed.Statement.{statement}

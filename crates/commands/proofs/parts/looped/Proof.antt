@@ -6,9 +6,9 @@ use Rattle.text.specs.Sizes.{mostValues}
 use Rattle.text.specs.Text.{lineText}
 use Rattle.text.specs.Keys.{loopKey}
 use Rattle.text.specs.Line.{keyOf}
+use Rattle.text.specs.Answers.{loopLine}
 use Rattle.lines.specs.Numbers.{as-they-are}
 use Rattle.commands.specs.Shows.{added}
-use Rattle.report.specs.Print.{loopLine}
 use native.Mathlib.Omega.{arith}
 use borrow.Author.Needs.{needs}
 use Rattle.commands.proofs.parts.looped.Statement.{statement}

@@ -8,10 +8,10 @@ use Rattle.sizes.specs.Sizes.{mostOperations}
 use Rattle.laws.specs.Z.{kept, fits32}
 use Rattle.laws.specs.Entry.{at}
 use Rattle.laws.specs.Store.{store-more}
+use Rattle.laws.specs.Each.{each-take}
 use Rattle.text.specs.Line.{keyOf}
 use Rattle.text.specs.Joined.{line-text}
 use Rattle.commands.specs.Listing.{cellOf}
-use Rattle.commands.specs.Shows.{each-take}
 use native.Mathlib.Omega.{arith}
 use borrow.Author.Needs.{needs}
 use Rattle.commands.proofs.rows.row_line.Statement.{statement}
@@ -62,7 +62,7 @@ unfolding keyOf
 returns c =
     let l = c .before .loop in
     let a = c .before .before .args in
-    line-text 15 (a .count) (l .values) _ (each-take (a .count) (l .values) (λ j. cellOf (at (a .t1) j)) (omega (arith, l .inv .1, c .before .before .pre)) (λ k h. l .inv .2 k (omega (arith, c .before .before .pre))))
+    line-text 15 (a .count) (l .values) _ (each-take (a .count) (l .values) (λ j. cellOf (at (a .t1) j)) (pos 0) (omega (arith, l .inv .1, c .before .before .pre)) (λ k h. l .inv .2 k (omega (arith, c .before .before .pre))))
 
 pub row-line-spec : {M : Type 1} → statement M
 row-line-spec =

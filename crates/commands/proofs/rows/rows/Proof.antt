@@ -5,8 +5,9 @@ use mathlib.Core.Path.{_≡_, subst}
 use mathlib.Core.List.{_∷_}
 use lib.ListN.{length}
 use Rattle.laws.specs.Entry.{cell}
+use Rattle.laws.specs.Each.{each}
 use Rattle.text.specs.Sizes.{mostValues}
-use Rattle.report.specs.Print.{answerLine, intervalLine, each}
+use Rattle.text.specs.Answers.{answerLine, intervalLine}
 use Rattle.commands.specs.Listing.{rowLine}
 use Rattle.commands.specs.Shows.{Shows, each-added}
 use native.Mathlib.Omega.{arith}

@@ -5,9 +5,10 @@ use mathlib.Core.Path.{_≡_, subst}
 use mathlib.Core.List.{_∷_}
 use lib.ListN.{length}
 use Rattle.laws.specs.Entry.{vec}
+use Rattle.laws.specs.Each.{each}
 use Rattle.text.specs.Sizes.{mostValues}
 use Rattle.text.specs.Line.{keyOf}
-use Rattle.report.specs.Print.{answerLine, intervalLine, each}
+use Rattle.text.specs.Answers.{answerLine, intervalLine}
 use Rattle.commands.specs.Listing.{startLine}
 use Rattle.commands.specs.Shows.{Shows, each-added, one}
 use native.Mathlib.Omega.{arith}

@@ -1,0 +1,22 @@
+-- The lines that answers are made of.
+use Prim.Native.Nat.{ℕ}
+use mathlib.Core.List.{List, [], _∷_, map}
+use lib.IntN.{pos}
+use Rattle.text.specs.Keys as key
+use Rattle.text.specs.Lines.{Line, countLine}
+
+-- `answer=` with 0 or the refusal
+abbrev pub answerLine : ℕ → Line
+answerLine n = countLine key.answerKey n
+
+-- `interval=`
+abbrev pub intervalLine : ℕ → Line
+intervalLine L = countLine key.intervalKey L
+
+-- `loop=` with edge numbers
+abbrev pub loopLine : List ℕ → Line
+loopLine ks = record { key = key.loopKey; values = map pos ks }
+
+-- `at=t,u`, an operation's start and instance
+abbrev pub atLine : ℕ → ℕ → Line
+atLine t u = record { key = key.atKey; values = pos t ∷ pos u ∷ [] }
