@@ -32,7 +32,10 @@ def from_the_bounds(made, rows):
 
 
 def times(count):
-    print("| family | sheets | intervals | median / 95 % / greatest, ms | from the bounds up | the same, ms | nodes: 95 % / most | over 1 s |")
+    print(
+        "| family | sheets | intervals | median / 95 % / greatest, ms | from the bounds up | the same, ms "
+        "| nodes: 95 % / most | over 1 s |"
+    )
     print("|---|---|---|---|---|---|---|---|")
     program = measure.times_program()
     for family in loops.FAMILIES:
@@ -69,7 +72,8 @@ def compare_one(solver, asked):
     own = [row[2] for _, row in asked]
     ratios = statistics.median(took) / statistics.median(own), percentile(took, 0.95) / percentile(own, 0.95)
     row = (solver.name, milliseconds(took), *ratios, 1000 * statistics.median(off), late, wrong)
-    print("  %-9s  %s   ratio at the median %.1f, at 95 %% %.1f; start-up %.1f; past the limit %d, other answers %d" % row, flush=True)
+    form = "  %-9s  %s   ratio at the median %.1f, at 95 %% %.1f; start-up %.1f; past the limit %d, other answers %d"
+    print(form % row, flush=True)
 
 
 def main():

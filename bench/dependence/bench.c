@@ -116,7 +116,11 @@ static size_t first_bad(const struct net *n, size_t *edges) {
   table w, next;
   fill(w, true);
   for (int k = 0;; k++) {
-    for (int e = 0; e < n->count; e++) if (closes(n->weight[e], w[n->to[e]][n->from[e]])) { trail(n, k, e, edges); return (size_t)k + 1; }
+    for (int e = 0; e < n->count; e++)
+      if (closes(n->weight[e], w[n->to[e]][n->from[e]])) {
+        trail(n, k, e, edges);
+        return (size_t)k + 1;
+      }
     memcpy(next, w, sizeof next);
     pass(n, next, w);
     memcpy(w, next, sizeof w);
@@ -199,7 +203,8 @@ static void any_graph(struct graph *g, size_t ops, size_t edges) {
   g->ops = ops;
   g->edge_count = edges;
   for (size_t i = 0; i < ops; i++) g->latency[i] = under(5);
-  for (size_t k = 0; k < edges; k++) g->edges[k] = (struct edge){under((unsigned)ops), under((unsigned)ops), (int)under(9) - 5, under(3)};
+  unsigned n = (unsigned)ops;
+  for (size_t k = 0; k < edges; k++) g->edges[k] = (struct edge){under(n), under(n), (int)under(9) - 5, under(3)};
 }
 
 // Forward edges, and a quarter back edges with distance 8: no bad closed walk from its bound on.
@@ -240,7 +245,8 @@ static int compare(int rounds) {
     if (memcmp(&w, &x, sizeof w)) return differs("bad walk", r);
     struct bound b = dependence_bound(g, cap), c = plain_bound(&g, cap);
     if (b.answer != c.answer || b.value != c.value) return differs("bound", r);
-    if (dependence_separation(g, interval, i, j) != plain_separation(&g, interval, i, j)) return differs("separation", r);
+    int32_t sum = dependence_separation(g, interval, i, j);
+    if (sum != plain_separation(&g, interval, i, j)) return differs("separation", r);
     if (dependence_lag(g, interval, i, j) != plain_lag(&g, interval, i, j)) return differs("lag", r);
   }
   printf("%d random graphs: the same answers\n", rounds);
@@ -288,14 +294,19 @@ int main(void) {
   z = a;
   z.edges[0] = (struct edge){0, 0, 1, 0};
   size_t l = dependence_bound(a, 64).value;
-  printf("24 operations, 96 edges, interval %zu; the ring's walk has %zu edges\n", l, dependence_bad_walk(c, 1).loop_length);
+  size_t ring = dependence_bad_walk(c, 1).loop_length;
+  printf("24 operations, 96 edges, interval %zu; the ring's walk has %zu edges\n", l, ring);
   printf("%-36s %9s %9s %7s\n", "microseconds a call", "proved", "plain C", "ratio");
   BOTH("in_range", 20000, dependence_in_range(a), plain_in_range(&a));
   BOTH("earliest", 20000, dependence_earliest(a, l, f).starts[1], plain_earliest(&a, l, &f).starts[1]);
-  BOTH("earliest, edges listed backwards", 20000, dependence_earliest(b, l, f).starts[1], plain_earliest(&b, l, &f).starts[1]);
-  BOTH("earliest, 5 with a ring of 24", 1000, dependence_earliest(c, 1, f).loop_length, plain_earliest(&c, 1, &f).loop_length);
+  BOTH("earliest, edges listed backwards", 20000, dependence_earliest(b, l, f).starts[1],
+       plain_earliest(&b, l, &f).starts[1]);
+  BOTH("earliest, 5 with a ring of 24", 1000, dependence_earliest(c, 1, f).loop_length,
+       plain_earliest(&c, 1, &f).loop_length);
   BOTH("bad_walk, none", 20000, dependence_bad_walk(a, l).answer, plain_bad_walk(&a, l).answer);
-  if (l > 1) BOTH("bad_walk, at the bound less 1", 2000, dependence_bad_walk(a, l - 1).loop_length, plain_bad_walk(&a, l - 1).loop_length);
+  if (l > 1)
+    BOTH("bad_walk, at the bound less 1", 2000, dependence_bad_walk(a, l - 1).loop_length,
+         plain_bad_walk(&a, l - 1).loop_length);
   BOTH("bad_walk, a ring of 24", 1000, dependence_bad_walk(c, 1).loop_length, plain_bad_walk(&c, 1).loop_length);
   BOTH("separations", 2000, dependence_separation(a, l, 1, 2), plain_separation(&a, l, 1, 2));
   BOTH("lags", 2000, dependence_lag(a, l, 1, 2), plain_lag(&a, l, 1, 2));

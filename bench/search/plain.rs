@@ -11,19 +11,33 @@ const NO_WALK: i32 = -1_000_000;
 
 // Processor time of this thread, in nanoseconds.
 #[repr(C)]
-struct Timespec { seconds: i64, nanoseconds: i64 }
-extern "C" { fn clock_gettime(clock: i32, time: *mut Timespec) -> i32; }
+struct Timespec {
+    seconds: i64,
+    nanoseconds: i64,
+}
+extern "C" {
+    fn clock_gettime(clock: i32, time: *mut Timespec) -> i32;
+}
 const THREAD_CPUTIME: i32 = 3;
 
 fn now() -> i64 {
-    let mut t = Timespec { seconds: 0, nanoseconds: 0 };
-    unsafe { clock_gettime(THREAD_CPUTIME, &mut t); }
+    let mut t = Timespec {
+        seconds: 0,
+        nanoseconds: 0,
+    };
+    unsafe {
+        clock_gettime(THREAD_CPUTIME, &mut t);
+    }
     t.seconds * 1_000_000_000 + t.nanoseconds
 }
 
 type Domain = [[bool; STARTS]; OPS];
 
-struct Op { kind: usize, lo: usize, hi: usize }
+struct Op {
+    kind: usize,
+    lo: usize,
+    hi: usize,
+}
 
 struct Sheet {
     horizon: usize,
@@ -34,7 +48,9 @@ struct Sheet {
 }
 
 impl Sheet {
-    fn latency(&self, i: usize) -> i32 { self.types[self.ops[i].kind].1 }
+    fn latency(&self, i: usize) -> i32 {
+        self.types[self.ops[i].kind].1
+    }
 
     // In the window of i, with the result there at the end of the horizon.
     fn start_allowed(&self, i: usize, t: usize) -> bool {
@@ -42,12 +58,31 @@ impl Sheet {
     }
 }
 
-struct Task { n: usize, l: usize, instances: Vec<usize>, count: Vec<usize>, resource: Vec<usize>, edges: Vec<(usize, usize, i32)>, lag: [[i32; OPS]; OPS], near: [[bool; OPS]; OPS] }
+struct Task {
+    n: usize,
+    l: usize,
+    instances: Vec<usize>,
+    count: Vec<usize>,
+    resource: Vec<usize>,
+    edges: Vec<(usize, usize, i32)>,
+    lag: [[i32; OPS]; OPS],
+    near: [[bool; OPS]; OPS],
+}
 
-struct Found { plan: Option<[usize; OPS]>, blame: [u64; OPS], nodes: u64 }
+struct Found {
+    plan: Option<[usize; OPS]>,
+    blame: [u64; OPS],
+    nodes: u64,
+}
 
 fn parse(text: &str) -> Sheet {
-    let mut s = Sheet { horizon: 0, cap: 0, types: vec![], ops: vec![], edges: vec![] };
+    let mut s = Sheet {
+        horizon: 0,
+        cap: 0,
+        types: vec![],
+        ops: vec![],
+        edges: vec![],
+    };
     for line in text.lines() {
         let (key, rest) = line.split_once('=').unwrap();
         let n: Vec<i32> = rest.split(',').map(|x| x.parse().unwrap()).collect();
@@ -55,7 +90,11 @@ fn parse(text: &str) -> Sheet {
             "horizon" => s.horizon = n[0] as usize,
             "cap" => s.cap = n[0] as usize,
             "type" => s.types.push((n[0] as usize, n[1])),
-            "op" => s.ops.push(Op { kind: n[0] as usize, lo: n[1] as usize, hi: n[2] as usize }),
+            "op" => s.ops.push(Op {
+                kind: n[0] as usize,
+                lo: n[1] as usize,
+                hi: n[2] as usize,
+            }),
             "edge" => s.edges.push((n[0] as usize, n[1] as usize, n[2], n[3])),
             _ => {}
         }
@@ -68,7 +107,9 @@ fn task(s: &Sheet, l: usize) -> Option<Task> {
     let n = s.ops.len();
     let mut count = vec![0; s.types.len()];
     let resource: Vec<usize> = s.ops.iter().map(|o| o.kind).collect();
-    for &r in &resource { count[r] += 1; }
+    for &r in &resource {
+        count[r] += 1;
+    }
     let mut lag = [[NO_WALK; OPS]; OPS];
     let mut edges = vec![];
     for &(i, j, d, b) in &s.edges {
@@ -76,28 +117,60 @@ fn task(s: &Sheet, l: usize) -> Option<Task> {
         edges.push((i, j, total));
         lag[i][j] = lag[i][j].max(total);
     }
-    for k in 0..n { for i in 0..n { for j in 0..n {
-        if lag[i][k] != NO_WALK && lag[k][j] != NO_WALK { lag[i][j] = lag[i][j].max(lag[i][k] + lag[k][j]); }
-    } }
-        if (0..n).any(|i| lag[i][i] > 0) { return None; }
+    for k in 0..n {
+        for i in 0..n {
+            for j in 0..n {
+                if lag[i][k] != NO_WALK && lag[k][j] != NO_WALK {
+                    lag[i][j] = lag[i][j].max(lag[i][k] + lag[k][j]);
+                }
+            }
+        }
+        if (0..n).any(|i| lag[i][i] > 0) {
+            return None;
+        }
     }
     let mut near = [[false; OPS]; OPS];
-    for i in 0..n { for j in 0..n { near[i][j] = i != j && lag[i][j] != NO_WALK && lag[j][i] != NO_WALK && 1 - lag[i][j] - lag[j][i] < l as i32; } }
-    for &(i, j, _) in &edges { if i != j { near[i][j] = true; near[j][i] = true; } }
-    Some(Task { n, l, instances: s.types.iter().map(|t| t.0).collect(), count, resource, edges, lag, near })
+    for i in 0..n {
+        for j in 0..n {
+            near[i][j] = i != j && lag[i][j] != NO_WALK && lag[j][i] != NO_WALK && 1 - lag[i][j] - lag[j][i] < l as i32;
+        }
+    }
+    for &(i, j, _) in &edges {
+        if i != j {
+            near[i][j] = true;
+            near[j][i] = true;
+        }
+    }
+    Some(Task {
+        n,
+        l,
+        instances: s.types.iter().map(|t| t.0).collect(),
+        count,
+        resource,
+        edges,
+        lag,
+        near,
+    })
 }
 
-fn least(row: &[bool; STARTS]) -> usize { row.iter().position(|&b| b).unwrap_or(STARTS) }
+fn least(row: &[bool; STARTS]) -> usize {
+    row.iter().position(|&b| b).unwrap_or(STARTS)
+}
 
 // Rule 1: a start of j stays only where i has a start that keeps both lags with it.
 fn support(p: &Task, d: &mut Domain, next: &[i32; STARTS + 1], i: usize, j: usize) -> bool {
     let (there, back) = (p.lag[i][j], p.lag[j][i]);
     let mut changed = false;
     for t in 0..STARTS {
-        if !d[j][t] { continue; }
+        if !d[j][t] {
+            continue;
+        }
         let lo = (t as i32 + back).max(0);
         let hi = (t as i32 - there).min(STARTS as i32 - 1);
-        if lo >= STARTS as i32 || next[lo as usize] > hi { d[j][t] = false; changed = true; }
+        if lo >= STARTS as i32 || next[lo as usize] > hi {
+            d[j][t] = false;
+            changed = true;
+        }
     }
     changed
 }
@@ -108,25 +181,57 @@ fn saturate(p: &Task, d: &mut Domain, r: usize, dirty: &mut [bool; OPS]) -> bool
     let ops: Vec<usize> = (0..p.n).filter(|&i| p.resource[i] == r).collect();
     let mut slots = vec![[false; SLOTS]; ops.len()];
     let mut used = [false; SLOTS];
-    for (x, &i) in ops.iter().enumerate() { for t in 0..STARTS { if d[i][t] { slots[x][t % l] = true; used[t % l] = true; } } }
+    for (x, &i) in ops.iter().enumerate() {
+        for t in 0..STARTS {
+            if d[i][t] {
+                slots[x][t % l] = true;
+                used[t % l] = true;
+            }
+        }
+    }
     let mut have: Vec<usize> = slots.iter().map(|z| z.iter().filter(|&&b| b).count()).collect();
     for s in 0..l {
-        if !used[s] { continue; }
+        if !used[s] {
+            continue;
+        }
         let mut out = have.clone();
         let (mut inside, mut cap) = (0, 0);
         for w in 1..=l {
             let b = (s + w - 1) % l;
-            if used[b] { cap += a; }
-            if cap > total { break; }
-            for x in 0..ops.len() { if slots[x][b] { out[x] -= 1; if out[x] == 0 { inside += 1; } } }
-            if inside > cap { return false; }
-            if inside < cap || inside == total { continue; }
-            for x in 0..ops.len() { if out[x] > 0 && out[x] < have[x] {
-                have[x] = out[x];
-                dirty[ops[x]] = true;
-                for q in 0..w { slots[x][(s + q) % l] = false; }
-                for t in 0..STARTS { if (t % l + l - s) % l < w { d[ops[x]][t] = false; } }
-            } }
+            if used[b] {
+                cap += a;
+            }
+            if cap > total {
+                break;
+            }
+            for x in 0..ops.len() {
+                if slots[x][b] {
+                    out[x] -= 1;
+                    if out[x] == 0 {
+                        inside += 1;
+                    }
+                }
+            }
+            if inside > cap {
+                return false;
+            }
+            if inside < cap || inside == total {
+                continue;
+            }
+            for x in 0..ops.len() {
+                if out[x] > 0 && out[x] < have[x] {
+                    have[x] = out[x];
+                    dirty[ops[x]] = true;
+                    for q in 0..w {
+                        slots[x][(s + q) % l] = false;
+                    }
+                    for t in 0..STARTS {
+                        if (t % l + l - s) % l < w {
+                            d[ops[x]][t] = false;
+                        }
+                    }
+                }
+            }
         }
     }
     true
@@ -137,71 +242,146 @@ fn narrow(p: &Task, d: &mut Domain, mut dirty: [bool; OPS]) -> bool {
         while let Some(i) = (0..p.n).find(|&i| dirty[i]) {
             dirty[i] = false;
             let mut next = [STARTS as i32; STARTS + 1];
-            for a in (0..STARTS).rev() { next[a] = if d[i][a] { a as i32 } else { next[a + 1] }; }
-            for j in 0..p.n { if p.near[i][j] && support(p, d, &next, i, j) { dirty[j] = true; if least(&d[j]) == STARTS { return false; } } }
+            for a in (0..STARTS).rev() {
+                next[a] = if d[i][a] { a as i32 } else { next[a + 1] };
+            }
+            for j in 0..p.n {
+                if p.near[i][j] && support(p, d, &next, i, j) {
+                    dirty[j] = true;
+                    if least(&d[j]) == STARTS {
+                        return false;
+                    }
+                }
+            }
         }
-        for r in 0..p.instances.len() { if p.instances[r] > 0 && p.count[r] > p.instances[r] && !saturate(p, d, r, &mut dirty) { return false; } }
-        if (0..p.n).any(|i| dirty[i] && least(&d[i]) == STARTS) { return false; }
-        if !dirty[..p.n].contains(&true) { return true; }
+        for r in 0..p.instances.len() {
+            if p.instances[r] > 0 && p.count[r] > p.instances[r] && !saturate(p, d, r, &mut dirty) {
+                return false;
+            }
+        }
+        if (0..p.n).any(|i| dirty[i] && least(&d[i]) == STARTS) {
+            return false;
+        }
+        if !dirty[..p.n].contains(&true) {
+            return true;
+        }
     }
 }
 
 fn is_plan(p: &Task, x: &[usize; OPS]) -> bool {
     p.edges.iter().all(|&(i, j, total)| x[i] as i32 + total <= x[j] as i32)
-        && (0..p.n).all(|i| p.instances[p.resource[i]] == 0 || (0..p.n).filter(|&j| p.resource[j] == p.resource[i] && x[j] % p.l == x[i] % p.l).count() <= p.instances[p.resource[i]])
+        && (0..p.n).all(|i| {
+            p.instances[p.resource[i]] == 0
+                || (0..p.n)
+                    .filter(|&j| p.resource[j] == p.resource[i] && x[j] % p.l == x[i] % p.l)
+                    .count()
+                    <= p.instances[p.resource[i]]
+        })
 }
 
 fn slot_count(p: &Task, row: &[bool; STARTS]) -> u64 {
     let mut seen = [false; SLOTS];
-    for t in 0..STARTS { if row[t] { seen[t % p.l] = true; } }
+    for t in 0..STARTS {
+        if row[t] {
+            seen[t % p.l] = true;
+        }
+    }
     seen.iter().filter(|&&b| b).count() as u64
 }
 
 fn search(p: &Task, from: &Domain, dirty: [bool; OPS], blame: [u64; OPS]) -> Found {
-    let mut f = Found { plan: None, blame, nodes: 1 };
+    let mut f = Found {
+        plan: None,
+        blame,
+        nodes: 1,
+    };
     let mut d = *from;
-    if !narrow(p, &mut d, dirty) { return f; }
+    if !narrow(p, &mut d, dirty) {
+        return f;
+    }
     let mut x = [0; OPS];
-    for i in 0..p.n { x[i] = least(&d[i]); }
-    if is_plan(p, &x) { f.plan = Some(x); return f; }
+    for i in 0..p.n {
+        x[i] = least(&d[i]);
+    }
+    if is_plan(p, &x) {
+        f.plan = Some(x);
+        return f;
+    }
     let mut best: Option<(usize, u64)> = None;
     for i in 0..p.n {
         let c = slot_count(p, &d[i]);
-        if c >= 2 && best.map_or(true, |(k, least)| c * f.blame[k] < least * f.blame[i]) { best = Some((i, c)); }
+        if c >= 2 && best.map_or(true, |(k, least)| c * f.blame[k] < least * f.blame[i]) {
+            best = Some((i, c));
+        }
     }
-    let (i, m) = match best { Some((i, _)) => (i, p.l), None => match (0..p.n).find(|&i| d[i].iter().filter(|&&b| b).count() > 1) { Some(i) => (i, STARTS), None => return f } };
+    let (i, m) = match best {
+        Some((i, _)) => (i, p.l),
+        None => match (0..p.n).find(|&i| d[i].iter().filter(|&&b| b).count() > 1) {
+            Some(i) => (i, STARTS),
+            None => return f,
+        },
+    };
     let mut one = [false; OPS];
     one[i] = true;
     for t in x[i]..STARTS {
-        if !d[i][t] { continue; }
+        if !d[i][t] {
+            continue;
+        }
         let mut c = d;
-        for q in 0..STARTS { if q % m != t % m { c[i][q] = false; } }
+        for q in 0..STARTS {
+            if q % m != t % m {
+                c[i][q] = false;
+            }
+        }
         let g = search(p, &c, one, f.blame);
         f.nodes += g.nodes;
         f.blame = g.blame;
-        if g.plan.is_some() { f.plan = g.plan; return f; }
+        if g.plan.is_some() {
+            f.plan = g.plan;
+            return f;
+        }
         f.blame[i] += 1;
-        for q in 0..STARTS { if q % m == t % m { d[i][q] = false; } }
+        for q in 0..STARTS {
+            if q % m == t % m {
+                d[i][q] = false;
+            }
+        }
     }
     f
 }
 
 fn first_plan(p: &Task, sheet: &Sheet) -> Found {
     let mut d = [[false; STARTS]; OPS];
-    for i in 0..p.n { for t in 0..sheet.horizon { d[i][t] = sheet.start_allowed(i, t); } }
-    if (0..p.n).any(|i| least(&d[i]) == STARTS) { return Found { plan: None, blame: [1; OPS], nodes: 0 }; }
+    for i in 0..p.n {
+        for t in 0..sheet.horizon {
+            d[i][t] = sheet.start_allowed(i, t);
+        }
+    }
+    if (0..p.n).any(|i| least(&d[i]) == STARTS) {
+        return Found {
+            plan: None,
+            blame: [1; OPS],
+            nodes: 0,
+        };
+    }
     let mut f = search(p, &d, [true; OPS], [1; OPS]);
     let Some(mut x) = f.plan else { return f };
     for i in 0..p.n {
         while (0..x[i]).any(|t| d[i][t]) {
             let mut c = d;
-            for t in x[i]..STARTS { c[i][t] = false; }
+            for t in x[i]..STARTS {
+                c[i][t] = false;
+            }
             let g = search(p, &c, [true; OPS], [1; OPS]);
             f.nodes += g.nodes;
             let Some(y) = g.plan else { break };
             x = y;
         }
-        for t in 0..STARTS { if t != x[i] { d[i][t] = false; } }
+        for t in 0..STARTS {
+            if t != x[i] {
+                d[i][t] = false;
+            }
+        }
     }
     f.plan = Some(x);
     f
@@ -221,11 +401,19 @@ fn main() {
             let began = now();
             let found = task(&sheet, l).map(|p| first_plan(&p, &sheet));
             let took = now() - began;
-            let answer = match &found { None => 5, Some(f) if f.plan.is_none() => 6, Some(_) => 0 };
+            let answer = match &found {
+                None => 5,
+                Some(f) if f.plan.is_none() => 6,
+                Some(_) => 0,
+            };
             let nodes = found.as_ref().map_or(0, |f| f.nodes);
-            let starts: Vec<String> = found.and_then(|f| f.plan).map_or(vec![], |x| x[..sheet.ops.len()].iter().map(|t| t.to_string()).collect());
+            let starts: Vec<String> = found
+                .and_then(|f| f.plan)
+                .map_or(vec![], |x| x[..sheet.ops.len()].iter().map(|t| t.to_string()).collect());
             println!("{} {} {} {} {} {}", number, l, answer, took, nodes, starts.join(","));
-            if answer == 0 { break; }
+            if answer == 0 {
+                break;
+            }
         }
         number += 1;
     }

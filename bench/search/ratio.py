@@ -55,7 +55,8 @@ def main():
     count = int(sys.argv[1]) if len(sys.argv) > 1 else 40
     seed = int(sys.argv[2]) if len(sys.argv) > 2 else 0
     times, plain = measure.times_program(), plain_program()
-    print("| family | intervals | leastplan, ms | plain search, ms | ratio | nodes, leastplan | nodes, plain |\n|---|---|---|---|---|---|---|")
+    print("| family | intervals | leastplan, ms | plain search, ms | ratio | nodes, leastplan | nodes, plain |")
+    print("|---|---|---|---|---|---|---|")
     for family in loops.FAMILIES:
         family_row(times, plain, family, count, seed)
 
