@@ -1,6 +1,6 @@
 // Tests of a plan's rules for one and for two operations: starts, instances, rivals, slots. Any operation number may be
-// asked about. Each rule is decided here alone: an operation's own start in starts.rt, its own instance in
-// `instance_allowed`, two rivals on one instance in `overlap`.
+// asked about. Each rule is decided here alone: an operation's own start in starts.rt, and there what holding an
+// instance asks of it; its own instance in `instance_allowed`; two rivals on one instance in `overlap`.
 ghost use mathlib.Core.Path.{_≡_};
 ghost use Rattle.laws.specs.Says.{Says};
 ghost use Rattle.sheet.specs.Sheet.{opAt, typeOf};
@@ -16,6 +16,7 @@ use sheet::Sheet;
 use sizes::MOST_OPERATIONS;
 use sizes::MOST_TYPES;
 pub use starts::allowed_starts;
+pub use starts::holds_allowed;
 
 // An operation with its numbers; past the array they are 0.
 fn operation_of(sheet: Sheet, op: usize) -> Operation

@@ -1,11 +1,12 @@
-// What an operation asks of its own start, whatever the others do: to start and to finish inside the horizon, and to
-// start inside its window.
+// What an operation asks of its own start, whatever the others do: to start and to finish inside the horizon, to start
+// inside its window, and what comes with holding an instance, which a placing table asks too.
 ghost use Rattle.laws.specs.Says.{Says};
-ghost use Rattle.plan.specs.Rules.{InHorizon, InWindow};
+ghost use Rattle.plan.specs.Rules.{MayHold, HoldsAllowed, InHorizon, InWindow, MayStart};
 ghost use Rattle.rules.specs.Starts.{RowFor};
 use crate::operation_of;
 use crate::type_of;
 use sheet::Operation;
+use sheet::ResourceType;
 use sheet::Sheet;
 use sizes::MOST_STARTS;
 
@@ -28,14 +29,37 @@ fn in_window(operation: Operation, t: usize) -> bool
     operation.lo <= t && t <= operation.hi
 }
 
-// Whether an operation may start at t, by the horizon and by its window.
-fn may_start(horizon: usize, latency: usize, operation: Operation, t: usize) -> bool
-    ensures { λ r. ⌜ Says (InHorizon horizon latency t × InWindow (operation .lo) (operation .hi) t) r ⌝ }
+// Whether an instance of this type may be held from the start t on: always, in one slot alone.
+fn may_hold(kind: ResourceType, interval: usize, t: usize) -> bool
+    ensures { λ r. ⌜ Says (MayHold kind interval t) r ⌝ }
+{
+    true
+}
+
+// Whether an operation may hold its instance from the start t on.
+pub fn holds_allowed(sheet: Sheet, interval: usize, op: usize, t: usize) -> bool
+    ensures { λ r. ⌜ Says (HoldsAllowed sheet interval op t) r ⌝ }
+{
+    may_hold(type_of(sheet, op), interval, t)
+}
+
+// Whether an operation of this type may start at t: by the horizon, by its window and by what holding asks.
+fn may_start(
+    horizon: usize,
+    kind: ResourceType,
+    operation: Operation,
+    interval: usize,
+    t: usize,
+) -> bool
+    ensures { λ r. ⌜ Says (MayStart horizon kind operation interval t) r ⌝ }
 {
     if !in_window(operation, t) {
         return false;
     }
-    in_horizon(horizon, latency, t)
+    if !in_horizon(horizon, kind.latency, t) {
+        return false;
+    }
+    may_hold(kind, interval, t)
 }
 
 // The starts that an operation may have, a flag for each.
@@ -44,11 +68,10 @@ pub fn allowed_starts(sheet: Sheet, interval: usize, op: usize) -> [bool; MOST_S
 {
     let horizon = sheet.horizon;
     let operation = operation_of(sheet, op);
-    let found = type_of(sheet, op);
-    let latency = found.latency;
+    let kind = type_of(sheet, op);
     let mut row = [false; MOST_STARTS];
     for t in 0..MOST_STARTS {
-        row[t] = may_start(horizon, latency, operation, t);
+        row[t] = may_start(horizon, kind, operation, interval, t);
     }
     row
 }

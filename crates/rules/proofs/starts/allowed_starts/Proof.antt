@@ -1,7 +1,7 @@
--- `rules::allowed_starts` meets its contract: each start passed has its flag, by the latency of the operation's type
--- and by the operation's window.
+-- `rules::allowed_starts` meets its contract: each start passed has its flag, by the operation's type and by the
+-- operation itself.
 -- Assumes nothing.
-use mathlib.Core.Path.{_≡_, sym, ap, subst}
+use mathlib.Core.Path.{_≡_, subst}
 use mathlib.Core.Bool.{Bool, false}
 use Prim.Native.Nat.{ℕ, _≤_, _<_, _-_}
 use native.Mathlib.Omega.{arith}
@@ -10,22 +10,22 @@ use borrow.Author.Needs.{needs}
 use Rattle.sizes.specs.Sizes.{mostStarts}
 use Rattle.laws.specs.Store.{store-more}
 use Rattle.laws.specs.Says.{Says}
-use Rattle.laws.specs.Tests.{last}
 use Rattle.sheet.specs.declared.Operation.{Operation}
 use Rattle.sheet.specs.declared.ResourceType.{ResourceType}
-use Rattle.plan.specs.Rules.{InHorizon, InWindow}
+use Rattle.sheet.specs.Sheet.{opAt}
+use Rattle.plan.specs.Rules.{MayStart}
 use Rattle.rules.proofs.starts.allowed_starts.Statement.{statement}
 use Rattle.rules.proofs.starts.allowed_starts.Tie as tie
 
 -- what is tested of each start
-abbrev Tested : ℕ → ℕ → Operation → ℕ → Bool → Type 0
-Tested horizon latency o k z = Says (InHorizon horizon latency k × InWindow (o .lo) (o .hi) k) z
+abbrev Tested : ℕ → ResourceType → Operation → ℕ → ℕ → Bool → Type 0
+Tested horizon kind o interval k z = Says (MayStart horizon kind o interval k) z
 
 abbrev Inv-loop : tie.InvT-loop
-Inv-loop interval op horizon operation latency row₀ t₀ row t = (t ≤ mostStarts) × (length row ≡ mostStarts) × ((k : ℕ) → k < t → Tested horizon latency operation k (getD row k false))
+Inv-loop interval op horizon operation kind row₀ t₀ row t = (t ≤ mostStarts) × (length row ≡ mostStarts) × ((k : ℕ) → k < t → Tested horizon kind operation interval k (getD row k false))
 
 abbrev μ-loop : tie.MeasureT-loop
-μ-loop interval op horizon operation latency row₀ t₀ row t = mostStarts - t
+μ-loop interval op horizon operation kind row₀ t₀ row t = mostStarts - t
 
 operation-of-requires : tie.Need-operation-of-requires Inv-loop μ-loop
 operation-of-requires c κs = search needs
@@ -53,23 +53,20 @@ loop-again c =
     let l = c .before .before .loop in
     let f = c .before .before .before in
     let o = f .before in
-    (omega arith, simp length-set (l .inv .1), store-more (Tested (o .before .args .sheet .horizon) (f .type-of .result .latency) (o .operation-of .result)) (l .row) (l .t) _ false (omega (arith, l .inv .1)) (c .may-start .ensures) (l .inv .2))
+    let a = o .before .args in
+    (omega arith, simp length-set (l .inv .1), store-more (Tested (a .sheet .horizon) (f .type-of .result) (o .operation-of .result) (a .interval)) (l .row) (l .t) _ false (omega (arith, l .inv .1)) (c .may-start .ensures) (l .inv .2))
 
 returns : tie.Need-returns Inv-loop μ-loop
 returns c =
     let l = c .before .loop in
     let f = c .before .before in
-    let H = f .before .before .args .sheet .horizon in
-    let o = f .before .operation-of .ensures in
-    let d = ap (λ (t : ResourceType). t .latency) (f .type-of .ensures) in
+    let a = f .before .before .args in
+    let H = a .sheet .horizon in
     record {
-      start = λ k h. last (l .inv .2 k (omega arith))
-          (λ p. record {
-            inHorizon = subst (λ (n : ℕ). InHorizon H n k) d (p .0);
-            inWindow = subst (λ (x : Operation). InWindow (x .lo) (x .hi) k) o (p .1);
-            holds = tt;
-          })
-          (λ a. (subst (λ (n : ℕ). InHorizon H n k) (sym d) (a .inHorizon), subst (λ (x : Operation). InWindow (x .lo) (x .hi) k) (sym o) (a .inWindow)));
+      start = λ k h.
+          subst (λ (x : ResourceType). Tested H x (opAt (a .sheet) (a .op)) (a .interval) k (getD (l .row) k false)) (f .type-of .ensures)
+          (subst (λ (x : Operation). Tested H (f .type-of .result) x (a .interval) k (getD (l .row) k false)) (f .before .operation-of .ensures)
+          (l .inv .2 k (omega arith)));
     }
 
 pub allowed-starts-spec : {M : Type 1} → statement M
