@@ -18,9 +18,9 @@ use Rattle.sheet.specs.Sheet.{Limited, opAt, typeAt}
 use Rattle.sheet.specs.Facts.{ops-most, types-most, resource-below, op-instances-most}
 use Rattle.sheet.specs.Questions.{Accepted}
 use Rattle.plan.specs.Rules.{InstanceAllowed, slot}
-use Rattle.placing.specs.declared.Placement.{Placement}
-use Rattle.placing.specs.declared.Table.{Table}
-use Rattle.placing.specs.Table.{placementAt}
+use Rattle.placing_table.specs.declared.Placement.{Placement}
+use Rattle.placing_table.specs.declared.Table.{Table}
+use Rattle.placing_table.specs.Table.{placementAt}
 use Rattle.page_text.specs.Columns.{blanks, right, upTo, lineFeed}
 use Rattle.page_text.specs.Page.{columnWidth, slotWidth, headingLine, userText, columnText, slotLine, reserves, uses, userOf, typeText, pageText}
 use Rattle.page_text.specs.Digits.{five-tell, no-dash}

@@ -10,8 +10,8 @@ use Rattle.text.specs.Text.{over}
 use Rattle.text.specs.Line.{refused}
 use Rattle.sheet.specs.declared.Sheet.{Sheet}
 use Rattle.sheet.specs.Questions.{Asked, Is, AtInterval}
-use Rattle.placing.specs.declared.Table.{Table}
-use Rattle.placing.specs.Table.{emptyTable, placing, Consistent}
+use Rattle.placing_table.specs.declared.Table.{Table}
+use Rattle.placing_table.specs.Table.{emptyTable, placing, Consistent}
 use Rattle.page_text.specs.Page.{pageText}
 
 -- the full table of a plan: each of n operations placed, in an empty table

@@ -13,8 +13,8 @@ use Rattle.sheet.specs.Sheet.{Limited, opAt, typeAt}
 use Rattle.sheet.specs.Facts.{ops-most}
 use Rattle.sheet.specs.Questions.{Accepted}
 use Rattle.plan.specs.Rules.{slot}
-use Rattle.placing.specs.declared.Placement.{Placement}
-use Rattle.placing.specs.Table.{placementAt}
+use Rattle.placing_table.specs.declared.Placement.{Placement}
+use Rattle.placing_table.specs.Table.{placementAt}
 use Rattle.page_text.specs.Page.{headingLine, slotLine, typeLines, uses, userOf, typeText}
 use Rattle.page_text.specs.Joining.{up-same}
 use Rattle.page_text.specs.Users.{last-same}

@@ -9,9 +9,9 @@ use Rattle.sheet.specs.declared.ResourceType.{ResourceType}
 use Rattle.sheet.specs.Sheet.{InRange, Interval, opAt}
 use Rattle.sheet.specs.Questions.{Asked, at-no, at-yes, Is}
 use Rattle.sheet.specs.Entries.{SameSheet, turn, range-same, at-interval-same}
-use Rattle.placing.specs.declared.Table.{Table}
-use Rattle.placing.specs.Table.{placementAt, Consistent}
-use Rattle.placing.specs.SameEntries.{consistent-same}
+use Rattle.placing_table.specs.declared.Table.{Table}
+use Rattle.placing_table.specs.Table.{placementAt, Consistent}
+use Rattle.placing_table.specs.SameEntries.{consistent-same}
 use Rattle.page_text.specs.Page.{typeLines, uses, lastOf, userOf, typeText, pageText}
 use Rattle.page_text.specs.Joining.{up-same}
 use Rattle.page_text.specs.Users.{last-same}

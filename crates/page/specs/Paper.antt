@@ -17,7 +17,7 @@ use Rattle.sheet.specs.declared.Sheet.{Sheet}
 use Rattle.sheet.specs.Sheet.{typeAt}
 use Rattle.sheet.specs.Facts.{types-most}
 use Rattle.sheet.specs.Questions.{Accepted}
-use Rattle.placing.specs.declared.Table.{Table}
+use Rattle.placing_table.specs.declared.Table.{Table}
 use Rattle.page_text.specs.Columns.{blanks, right, upTo, lineFeed}
 use Rattle.page_text.specs.Page.{lineWidth, columnWidth, typeWord, headingLine, userText, columnText, slotLine, typeLines, userOf, typeText, pageText}
 use Rattle.page_text.specs.Digits.{hundredsByte, tensByte, onesByte, five-bytes, four-bytes, dash-bytes}

@@ -11,8 +11,8 @@ use lib.ListN.{length, getD, set, length-set, replicate, getD-replicate, List·g
 use lib.Seq.{getD-set-same, getD-set-other}
 use Rattle.sizes.specs.Sizes.{mostOperations}
 use Rattle.laws.specs.Entry.{vec}
-use Rattle.placing.specs.declared.Placement.{Placement}
-use Rattle.placing.specs.Table.{nothing, emptyTable, placementAt, placing}
+use Rattle.placing_table.specs.declared.Placement.{Placement}
+use Rattle.placing_table.specs.Table.{nothing, emptyTable, placementAt, placing}
 use Rattle.page.specs.Answers.{fullTable}
 
 -- an operation placed at a start on an instance

@@ -7,8 +7,8 @@ ghost use Rattle.sizes.specs.Sizes.{mostOperations};
 ghost use Rattle.text.specs.Line.{refused};
 ghost use Rattle.page.specs.Answers.{fullTable, PageAt};
 use page_text::LINE_LENGTH;
-use placing::Placement;
-use placing::Table;
+use placing_table::Placement;
+use placing_table::Table;
 use sheet::Sheet;
 use sizes::MOST_INTERVALS;
 use sizes::MOST_OPERATIONS;
@@ -73,7 +73,7 @@ pub fn page(
         return refuse(10);
     }
     let table = full_table(count, starts, instances);
-    if !placing::consistent(sheet, interval, table) {
+    if !placing_table::consistent(sheet, interval, table) {
         return refuse(10);
     }
     let bytes = page_text::put_page(out, sheet, interval, table);

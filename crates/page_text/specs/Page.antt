@@ -9,9 +9,9 @@ use Rattle.text.specs.Text.{digits}
 use Rattle.sheet.specs.declared.Sheet.{Sheet}
 use Rattle.sheet.specs.Sheet.{typeAt, opAt}
 use Rattle.plan.specs.Rules.{slot}
-use Rattle.placing.specs.declared.Placement.{Placement}
-use Rattle.placing.specs.declared.Table.{Table}
-use Rattle.placing.specs.Table.{placementAt}
+use Rattle.placing_table.specs.declared.Placement.{Placement}
+use Rattle.placing_table.specs.declared.Table.{Table}
+use Rattle.placing_table.specs.Table.{placementAt}
 use Rattle.page_text.specs.Columns.{blanks, right, padded, upTo, lineFeed}
 
 -- ---- the lines; a user of an instance is 0 for no operation, i + 1 for operation i

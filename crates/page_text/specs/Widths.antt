@@ -16,8 +16,8 @@ use Rattle.sheet.specs.declared.Sheet.{Sheet}
 use Rattle.sheet.specs.Sheet.{typeAt, opAt}
 use Rattle.sheet.specs.Facts.{ops-most, types-most, cap-most}
 use Rattle.sheet.specs.Questions.{Accepted}
-use Rattle.placing.specs.declared.Table.{Table}
-use Rattle.placing.specs.Table.{placementAt}
+use Rattle.placing_table.specs.declared.Table.{Table}
+use Rattle.placing_table.specs.Table.{placementAt}
 use Rattle.page_text.specs.Columns.{blanks, right, padded, upTo, lineFeed}
 use Rattle.page_text.specs.Page.{lineWidth, typeWord, headingLine, userText, columnText, slotLine, typeLines, uses, userOf, typeText, pageText}
 use Rattle.page_text.specs.Digits.{five-bytes, four-bytes, dash-bytes}

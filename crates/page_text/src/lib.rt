@@ -15,7 +15,7 @@ ghost use Rattle.page_text.specs.Page.{headingLine, columnText, slotLine
 ghost use Rattle.page_text.specs.Pasting.{Pasted};
 ghost use Rattle.page_text.specs.Users.{FewUsers};
 ghost use Rattle.page_text.specs.Widths.{lineLength, typeLength, pageLength};
-use placing::Table;
+use placing_table::Table;
 use sheet::Sheet;
 use sizes::MOST_INSTANCES;
 use users::Users;

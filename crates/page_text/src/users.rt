@@ -4,8 +4,8 @@ ghost use Prim.Native.Nat.{_<_, _≤_};
 ghost use Rattle.sizes.specs.Sizes.{mostOperations};
 ghost use Rattle.page_text.specs.Page.{reserves, userOf};
 ghost use Rattle.page_text.specs.Users.{UsersOf, withUser};
-use placing::Placement;
-use placing::Table;
+use placing_table::Placement;
+use placing_table::Table;
 use sheet::Sheet;
 use sizes::MOST_INSTANCES;
 

@@ -1,13 +1,15 @@
--- A new placing table, and placing an operation: what each answer says. The questions come in their order; each answer
--- pins the whole result.
+-- A new placing table, placing an operation, an offer and its booking: what each answer says. The questions come in
+-- their order; each answer pins the whole result.
 use Prim.Native.Nat.{ℕ}
 use mathlib.Core.Path.{_≡_}
 use Rattle.sheet.specs.declared.Sheet.{Sheet}
 use Rattle.sheet.specs.Questions.{Asked, Is, AtInterval}
-use Rattle.placing.specs.Table.{emptyTable, Consistent, Target, Unplaced, SomeFree, LowestFree, placing}
-use Rattle.placing.specs.declared.Table.{Table}
+use Rattle.placing_table.specs.declared.Table.{Table}
+use Rattle.placing_table.specs.Table.{emptyTable, Consistent, Target, Unplaced, Free, SomeFree, LowestFree, placing}
 use Rattle.placing.specs.declared.NewTable.{NewTable}
 use Rattle.placing.specs.declared.PlaceAnswer.{PlaceAnswer}
+use Rattle.placing.specs.declared.Offer.{Offer}
+use Rattle.placing.specs.declared.OfferAnswer.{OfferAnswer}
 use Rattle.placing.specs.declared.Outcome.{Outcome}
 
 -- ---- a new table
@@ -31,9 +33,21 @@ abbrev pub ToPlace : {A : Type 0} → (ℕ → A) → Sheet → ℕ → Table �
 ToPlace refused s L table op start Then =
     OnTable refused s L table (Asked (Target s op start) (Is (refused 11)) (Asked (Unplaced table op) (Is (refused 12)) Then))
 
+-- what is made of the lowest free instance
+pub record OfLowest {A : Type 0} (s : Sheet) (L : ℕ) (table : Table) (op start : ℕ) (made : ℕ → A) (a : A) : Type 0 where
+  pub instance : ℕ
+  pub lowest : LowestFree s L table op start instance
+  pub pinned : a ≡ made instance
+
 -- the number that these questions answer: 0 where all get a yes
 abbrev pub AskedToPlace : Sheet → ℕ → Table → ℕ → ℕ → ℕ → Type 0
 AskedToPlace s L table op start = ToPlace (λ (n : ℕ). n) s L table op start (Is 0)
+
+-- those and 13, then what is made of the lowest free instance
+abbrev pub ToLowest : {A : Type 0} → (ℕ → A) → Sheet → ℕ → Table → ℕ → ℕ → (ℕ → A) → A → Type 0
+ToLowest refused s L table op start made =
+    ToPlace refused s L table op start
+    (Asked (SomeFree s L table op start) (Is (refused 13)) (OfLowest s L table op start made))
 
 -- ---- placing
 
@@ -45,20 +59,36 @@ refused table n = record { answer = n; instance = 0; table = table }
 abbrev pub placedOn : Table → ℕ → ℕ → ℕ → PlaceAnswer
 placedOn table op start u = record { answer = 0; instance = u; table = placing table op start u }
 
--- the answer 0: the lowest free instance
-pub record GivenLowest (s : Sheet) (L : ℕ) (table : Table) (op start : ℕ) (a : PlaceAnswer) : Type 0 where
-  pub instance : ℕ
-  pub lowest : LowestFree s L table op start instance
-  pub pinned : a ≡ placedOn table op start instance
-
--- question 13, then the lowest free instance
-abbrev pub IfFree : Sheet → ℕ → Table → ℕ → ℕ → PlaceAnswer → Type 0
-IfFree s L table op start = Asked (SomeFree s L table op start) (Is (refused table 13)) (GivenLowest s L table op start)
-
--- the service "placing": the sheet's questions, 4, and 10 to 13, then the lowest free instance
+-- the service "placing": the sheet's questions, 4, and 10 to 13, then the operation on the lowest free instance
 abbrev pub PlaceAt : Sheet → ℕ → Table → ℕ → ℕ → PlaceAnswer → Type 0
-PlaceAt s L table op start = ToPlace (refused table) s L table op start (IfFree s L table op start)
+PlaceAt s L table op start = ToLowest (refused table) s L table op start (placedOn table op start)
 
 -- the answer of a placing in a table that the caller keeps, with that table afterwards
 abbrev pub whole : Outcome → Table → PlaceAnswer
 whole r table = record { answer = r .answer; instance = r .instance; table = table }
+
+-- ---- an offer, and booking it
+
+-- with a refusal every number of an offer is 0
+abbrev pub noOffer : ℕ → OfferAnswer
+noOffer n = record { answer = n; offer = record { operation = 0; start = 0; instance = 0 } }
+
+-- 0 with operation, start and instance
+abbrev pub offering : ℕ → ℕ → ℕ → OfferAnswer
+offering op start u = record { answer = 0; offer = record { operation = op; start = start; instance = u } }
+
+-- the service "offer": what placing asks, then the lowest free instance is named. Nothing is altered: no table comes
+-- back.
+abbrev pub OfferAt : Sheet → ℕ → Table → ℕ → ℕ → OfferAnswer → Type 0
+OfferAt s L table op start = ToLowest noOffer s L table op start (offering op start)
+
+-- question 17: the offered instance is in range and free in the slot, whether it is the lowest or not
+abbrev pub OfferFree : Sheet → ℕ → Table → Offer → Type 0
+OfferFree s L table o = Free s L table (o .operation) (o .start) (o .instance)
+
+-- the service "book an offer": the sheet's questions, 4, 10 to 12 and 17, then the operation on the offered instance
+abbrev pub BookAt : Sheet → ℕ → Table → Offer → PlaceAnswer → Type 0
+BookAt s L table o =
+    ToPlace (refused table) s L table (o .operation) (o .start)
+    (Asked (OfferFree s L table o) (Is (refused table 17))
+    (Is (placedOn table (o .operation) (o .start) (o .instance))))

@@ -10,13 +10,13 @@ use lib.ListN.{length, getD, set}
 use lib.Seq.{set-getD, getD-set-same}
 use Rattle.sizes.specs.Sizes.{mostOperations}
 use Rattle.sheet.specs.declared.Sheet.{Sheet}
-use Rattle.placing.specs.declared.Placement.{Placement}
-use Rattle.placing.specs.declared.Table.{Table}
+use Rattle.placing_table.specs.declared.Placement.{Placement}
+use Rattle.placing_table.specs.declared.Table.{Table}
+use Rattle.placing_table.specs.Table.{nothing, placementAt, placing}
 use Rattle.placing.specs.declared.PlaceAnswer.{PlaceAnswer}
 use Rattle.placing.specs.declared.Change.{Change}
-use Rattle.placing.specs.Table.{nothing, placementAt, placing}
 use Rattle.placing.specs.Answers.{PlaceAt}
-use Rattle.placing.specs.Asking.{has-entry, kept-or-placed}
+use Rattle.placing.specs.Asking.{has-entry, place-kept-or}
 
 -- the table with one entry stored
 abbrev pub storing : Table → ℕ → Placement → Table
@@ -45,10 +45,9 @@ module _ {s : Sheet} {L : ℕ} {table : Table} {op start : ℕ} (long : length (
   one-entry a =
       ⊎-elim (λ e. subst (OneEntry table at) (sym e) (kept table at))
       (λ p.
-      let n = has-entry (p .0) in
-      let g = p .1 in
-      subst (OneEntry table at) (sym (ap (λ (x : PlaceAnswer). x .table) (g .pinned))) (placed-entry table op start (g .instance) at (omega arith) (here n)))
-      (kept-or-placed a)
+      let n = has-entry (p .placeable) in
+      subst (OneEntry table at) (sym (ap (λ (x : PlaceAnswer). x .table) (p .pinned))) (placed-entry table op start (p .instance) at (omega arith) (here n)))
+      (place-kept-or a)
 
   pub as-changed : {r : PlaceAnswer} {p : Placement} → PlaceAt s L table op start r → p ≡ placementAt (r .table) at
       → PlaceAt s L table op start (changed table (record { answer = r .answer; instance = r .instance; at = at; entry = p }))

@@ -1,105 +1,21 @@
--- A new table is consistent, and a placing keeps a table consistent: question 10 gets a yes where no other hand was at
--- the table. Assumes nothing.
-use mathlib.Core.Path.{_≡_, refl, sym, ap, subst, _∙_}
-use mathlib.Core.Bool.{true}
+-- A new table is consistent, and a placing and a booking keep a table consistent: question 10 gets a yes where no other
+-- hand was at the table. Assumes nothing.
+use mathlib.Core.Path.{_≡_, sym, ap, subst}
 use mathlib.Core.Logic.{⊎-elim}
-use Prim.Native.Nat.{ℕ, _<_}
-use native.Mathlib.Decide.{ℕ-discrete}
+use Prim.Native.Nat.{ℕ}
 use native.Mathlib.Omega.{arith}
-use lib.ListN.{length, getD-replicate, List·getD-eq-default}
-use lib.Seq.{getD-set-same, getD-set-other}
+use lib.ListN.{length}
 use Rattle.sizes.specs.Sizes.{mostOperations}
-use Rattle.laws.specs.Z.{true-false}
-use Rattle.laws.specs.Store.{store}
 use Rattle.sheet.specs.declared.Sheet.{Sheet}
 use Rattle.sheet.specs.Questions.{at-no, at-yes}
-use Rattle.plan.specs.Rules.{Overlap}
-use Rattle.plan.specs.Pairs.{rivals-back, overlap-back}
-use Rattle.placing.specs.declared.Placement.{Placement}
-use Rattle.placing.specs.declared.Table.{Table}
+use Rattle.placing_table.specs.declared.Table.{Table}
+use Rattle.placing_table.specs.Table.{emptyTable, Consistent}
+use Rattle.placing_table.specs.Keeps.{empty-consistent, keeps}
 use Rattle.placing.specs.declared.NewTable.{NewTable}
+use Rattle.placing.specs.declared.Offer.{Offer}
 use Rattle.placing.specs.declared.PlaceAnswer.{PlaceAnswer}
-use Rattle.placing.specs.Table.{nothing, emptyTable, placementAt, Placed, EntryAllowed, Taken, Apart, Consistent, Target, Free, placing}
-use Rattle.placing.specs.Answers.{NewAt, PlaceAt}
-use Rattle.placing.specs.Asking.{has-entry, kept-or-placed}
-use Rattle.placing.specs.Entries.{empty-allowed, placed-allowed, everywhere}
-
--- ---- a new table
-
-empty-at : (i : ℕ) → placementAt emptyTable i ≡ nothing
-empty-at = everywhere (λ i. placementAt emptyTable i ≡ nothing) (λ i h. getD-replicate mostOperations i nothing nothing h) (λ i h. List·getD-eq-default (emptyTable .entries) nothing h)
-
-empty-consistent : (s : Sheet) (L : ℕ) → Consistent s L emptyTable
-empty-consistent s L = record {
-  entries = λ i. subst (EntryAllowed s L i) (sym (empty-at i)) (empty-allowed refl refl refl);
-  apart = λ i p. true-false (sym p ∙ ap (λ (x : Placement). x .placed) (empty-at i));
-}
-
--- ---- one operation more
-
-module _ (s : Sheet) (L : ℕ) (table : Table) (op start u : ℕ) (within : op < length (table .entries)) where
-  here : placementAt (placing table op start u) op ≡ record { placed = true; start = start; instance = u }
-  here = getD-set-same (table .entries) op (record { placed = true; start = start; instance = u }) nothing within
-
-  there : (i : ℕ) → (i ≡ op → ⊥) → placementAt (placing table op start u) i ≡ placementAt table i
-  there i n = getD-set-other (table .entries) op i (record { placed = true; start = start; instance = u }) nothing n
-
-  module _ (c : Consistent s L table) (target : Target s op start) (free : Free s L table op start u) where
-    -- what takes an instance in the new table from an operation at i with the entry p
-    Takes : ℕ → Placement → ℕ → Type 0
-    Takes i p j = Taken s L (placing table op start u) i (p .start) (p .instance) j
-
-    -- the new operation's instance is not taken by another
-    new-apart : (j : ℕ) → Takes op (record { placed = true; start = start; instance = u }) j → ⊥
-    unfolding Takes
-    new-apart j t =
-        let e = there j (λ q. t .rivals .different (sym q)) in
-        free .untaken j (record {
-          placed = subst (λ (x : Placement). x .placed ≡ true) e (t .placed);
-          rivals = t .rivals;
-          instance = subst (λ (x : Placement). x .instance ≡ u) e (t .instance);
-          overlap = subst (λ (x : Placement). Overlap s L op start j (x .start)) e (t .overlap);
-        })
-
-    -- nor does it take that of another, nor does an old operation
-    old-apart : (i : ℕ) → Placed table i → (j : ℕ) → Takes i (placementAt table i) j → ⊥
-    unfolding Takes
-    old-apart i p j t = at (ℕ-discrete j op)
-      where
-        at : Dec (j ≡ op) → ⊥
-        at (yes e) =
-            let q : Taken s L (placing table op start u) i (placementAt table i .start) (placementAt table i .instance) op = subst (Taken s L (placing table op start u) i (placementAt table i .start) (placementAt table i .instance)) e t in
-            free .untaken i (record {
-              placed = p;
-              rivals = rivals-back (q .rivals);
-              instance = sym (subst (λ (x : Placement). x .instance ≡ placementAt table i .instance) here (q .instance));
-              overlap = overlap-back s L i (placementAt table i .start) op start (subst (λ (x : Placement). Overlap s L i (placementAt table i .start) op (x .start)) here (q .overlap));
-            })
-        at (no n) =
-            let e = there j n in
-            c .apart i p j (record {
-              placed = subst (λ (x : Placement). x .placed ≡ true) e (t .placed);
-              rivals = t .rivals;
-              instance = subst (λ (x : Placement). x .instance ≡ placementAt table i .instance) e (t .instance);
-              overlap = subst (λ (x : Placement). Overlap s L i (placementAt table i .start) j (x .start)) e (t .overlap);
-            })
-
-    keeps : Consistent s L (placing table op start u)
-    unfolding Takes
-    keeps = record {
-      entries = λ i. store (EntryAllowed s L) (table .entries) op (record { placed = true; start = start; instance = u }) nothing within
-          (placed-allowed refl (target .operation) (target .inHorizon) (free .holds) (free .allowed)) i (λ n. c .entries i);
-      apart = λ i. at i (ℕ-discrete i op);
-    }
-      where
-        at : (i : ℕ) → Dec (i ≡ op) → Apart s L (placing table op start u) i
-        at i (yes e) p = subst (λ (k : ℕ). (j : ℕ) → Takes k (placementAt (placing table op start u) k) j → ⊥) (sym e)
-            (subst (λ (x : Placement). (j : ℕ) → Takes op x j → ⊥) (sym here) new-apart)
-        at i (no n) p =
-            let e = there i n in
-            subst (λ (x : Placement). (j : ℕ) → Takes i x j → ⊥) (sym e) (old-apart i (subst (λ (x : Placement). x .placed ≡ true) e p))
-
--- ---- the answers
+use Rattle.placing.specs.Answers.{NewAt, PlaceAt, BookAt}
+use Rattle.placing.specs.Asking.{has-entry, KeptOrPlaced, place-kept-or, book-kept-or}
 
 module _ {s : Sheet} {L : ℕ} where
   pub new-consistent : {r : NewTable} → NewAt s L r → Consistent s L (r .table)
@@ -110,13 +26,19 @@ module _ {s : Sheet} {L : ℕ} where
       made (at-yes _ (at-no _ e)) = ap (λ (x : NewTable). x .table) e
       made (at-yes _ (at-yes _ e)) = ap (λ (x : NewTable). x .table) e
 
-  pub place-consistent : {table : Table} {op start : ℕ} {r : PlaceAnswer} → length (table .entries) ≡ mostOperations
-      → Consistent s L table → PlaceAt s L table op start r → Consistent s L (r .table)
-  place-consistent {table} {op} {start} long c a =
+  still-consistent : {table : Table} {op start : ℕ} {r : PlaceAnswer} → length (table .entries) ≡ mostOperations
+      → Consistent s L table → KeptOrPlaced s L table op start r → Consistent s L (r .table)
+  still-consistent {table} {op} {start} long c =
       ⊎-elim (λ e. subst (Consistent s L) (sym e) c)
       (λ p.
-      let y = p .0 in
-      let g = p .1 in
-      subst (Consistent s L) (sym (ap (λ (x : PlaceAnswer). x .table) (g .pinned)))
-      (keeps s L table op start (g .instance) (omega (arith, has-entry y)) c (y .target) (g .lowest .free)))
-      (kept-or-placed a)
+      let y = p .placeable in
+      subst (Consistent s L) (sym (ap (λ (x : PlaceAnswer). x .table) (p .pinned)))
+      (keeps s L table op start (p .instance) (omega (arith, has-entry y)) c (y .target) (p .free)))
+
+  pub place-consistent : {table : Table} {op start : ℕ} {r : PlaceAnswer} → length (table .entries) ≡ mostOperations
+      → Consistent s L table → PlaceAt s L table op start r → Consistent s L (r .table)
+  place-consistent long c a = still-consistent long c (place-kept-or a)
+
+  pub book-consistent : {table : Table} {o : Offer} {r : PlaceAnswer} → length (table .entries) ≡ mostOperations
+      → Consistent s L table → BookAt s L table o r → Consistent s L (r .table)
+  book-consistent long c a = still-consistent long c (book-kept-or a)

@@ -1,12 +1,13 @@
--- At most one answer fits an input: a new table, and a placing.
+-- At most one answer fits an input: a new table, a placing, an offer, a booking.
 -- Assumes nothing.
 use mathlib.Core.Path.{_≡_, sym, ap, _∙_}
 use Prim.Native.Nat.{ℕ}
 use native.Mathlib.Omega.{arith}
 use Rattle.sheet.specs.declared.Sheet.{Sheet}
 use Rattle.sheet.specs.Questions.{One, is-one, asked-one, at-interval-one}
-use Rattle.placing.specs.declared.Table.{Table}
-use Rattle.placing.specs.Answers.{newTable, NewAt, OnTable, ToPlace, refused, placedOn, GivenLowest, PlaceAt}
+use Rattle.placing_table.specs.declared.Table.{Table}
+use Rattle.placing.specs.declared.Offer.{Offer}
+use Rattle.placing.specs.Answers.{newTable, NewAt, OnTable, ToPlace, OfLowest, ToLowest, refused, placedOn, PlaceAt, noOffer, offering, OfferAt, BookAt}
 
 pub new-unique : {s : Sheet} {L : ℕ} → One (NewAt s L)
 new-unique = at-interval-one newTable (is-one (newTable 0))
@@ -21,15 +22,24 @@ module _ {A : Type 0} (refused : ℕ → A) {s : Sheet} {L : ℕ} {table : Table
   pub to-place-one : One Then → One (ToPlace refused s L table op start Then)
   to-place-one f = on-table-one refused (asked-one (is-one (refused 11)) (asked-one (is-one (refused 12)) f))
 
--- ---- a placing
+-- ---- a placing, an offer, a booking
 
-module _ {s : Sheet} {L : ℕ} {table : Table} {op start : ℕ} where
-  given-one : One (GivenLowest s L table op start)
-  given-one a b p q =
+module _ {A : Type 0} (refused : ℕ → A) {s : Sheet} {L : ℕ} {table : Table} {op start : ℕ} (made : ℕ → A) where
+  of-lowest-one : One (OfLowest s L table op start made)
+  of-lowest-one a b p q =
       let x = p .lowest .lowest (q .instance) (q .lowest .free) in
       let y = q .lowest .lowest (p .instance) (p .lowest .free) in
       let e : p .instance ≡ q .instance = omega arith in
-      p .pinned ∙ ap (placedOn table op start) e ∙ sym (q .pinned)
+      p .pinned ∙ ap made e ∙ sym (q .pinned)
 
-  pub place-unique : One (PlaceAt s L table op start)
-  place-unique = to-place-one (refused table) (asked-one (is-one (refused table 13)) given-one)
+  to-lowest-one : One (ToLowest refused s L table op start made)
+  to-lowest-one = to-place-one refused (asked-one (is-one (refused 13)) of-lowest-one)
+
+pub place-unique : {s : Sheet} {L : ℕ} {table : Table} {op start : ℕ} → One (PlaceAt s L table op start)
+place-unique {table = table} {op} {start} = to-lowest-one (refused table) (placedOn table op start)
+
+pub offer-unique : {s : Sheet} {L : ℕ} {table : Table} {op start : ℕ} → One (OfferAt s L table op start)
+offer-unique {op = op} {start} = to-lowest-one noOffer (offering op start)
+
+pub book-unique : {s : Sheet} {L : ℕ} {table : Table} {o : Offer} → One (BookAt s L table o)
+book-unique {table = table} = to-place-one (refused table) (asked-one (is-one (refused table 17)) (is-one _))

@@ -1,29 +1,18 @@
-// The placing table (modulo reservation table) of a sheet at an interval: which operations are placed, at which start,
-// on which instance.
-ghost use Prim.Native.Nat.{ℕ, _<_};
+// The services on a placing table (modulo reservation table): a new one; an offer of the lowest free instance, which
+// alters nothing; booking an offer; and placing, which is both at once. The table itself, what is free in it and
+// question 10 are in the crate `placing_table`.
+ghost use Prim.Native.Nat.{_<_};
 ghost use mathlib.Core.Path.{_≡_};
 ghost use Rattle.sizes.specs.Sizes.{mostOperations};
 ghost use Rattle.laws.specs.Says.{Says};
-ghost use Rattle.placing.specs.Table.{placementAt, EntryAllowed, Taken, Untaken, Apart, Consistent, Target};
-ghost use Rattle.placing.specs.Answers.{NewAt, AskedToPlace, refused, PlaceAt, whole};
+ghost use Rattle.placing_table.specs.Table.{Target};
+ghost use Rattle.placing.specs.Answers.{NewAt, AskedToPlace, refused, PlaceAt, noOffer, OfferAt, BookAt, whole};
 ghost use Rattle.placing.specs.Change.{changed};
-ghost use Rattle.placing.specs.Room.{Room, FirstUntaken};
+use placing_table::Placement;
+use placing_table::Table;
+use placing_table::Vacancy;
 use sheet::Sheet;
 use sizes::MOST_OPERATIONS;
-
-// Where an operation is placed. Both numbers are 0 where nothing is.
-#[repr(C)]
-pub struct Placement {
-    pub placed: bool,
-    pub start: usize,
-    pub instance: usize,
-}
-
-// An entry for each operation.
-#[repr(C)]
-pub struct Table {
-    pub entries: [Placement; MOST_OPERATIONS],
-}
 
 // The answer, and a table in which nothing is placed.
 #[repr(C)]
@@ -38,6 +27,21 @@ pub struct PlaceAnswer {
     pub answer: usize,
     pub instance: usize,
     pub table: Table,
+}
+
+// An operation, a start, and an instance for it.
+#[repr(C)]
+pub struct Offer {
+    pub operation: usize,
+    pub start: usize,
+    pub instance: usize,
+}
+
+// The answer, and the offer; with a refusal all its numbers are 0.
+#[repr(C)]
+pub struct OfferAnswer {
+    pub answer: usize,
+    pub offer: Offer,
 }
 
 // ---- a new table
@@ -60,152 +64,7 @@ pub fn new_table(sheet: Sheet, interval: usize) -> NewTable
     }
 }
 
-// ---- what is taken
-
-// Whether operation j takes the instance from operation op at this start.
-fn takes(
-    sheet: Sheet,
-    interval: usize,
-    table: Table,
-    op: usize,
-    start: usize,
-    instance: usize,
-    j: usize,
-) -> bool
-    requires { ⌜ j < mostOperations ⌝ }
-    ensures { λ r. ⌜ Says (Taken sheet interval table op start instance j) r ⌝ }
-{
-    let p = table.entries[j];
-    if !p.placed {
-        return false;
-    }
-    if p.instance != instance {
-        return false;
-    }
-    if !rules::overlap(sheet, interval, op, start, j, p.start) {
-        return false;
-    }
-    rules::rivals(sheet, op, j)
-}
-
-// Whether no operation takes the instance from operation op at this start.
-fn untaken(
-    sheet: Sheet,
-    interval: usize,
-    table: Table,
-    op: usize,
-    start: usize,
-    instance: usize,
-) -> bool
-    ensures { λ r. ⌜ Says (Untaken sheet interval table op start instance) r ⌝ }
-{
-    for j in 0..MOST_OPERATIONS {
-        if takes(sheet, interval, table, op, start, instance, j) {
-            return false;
-        }
-    }
-    true
-}
-
-// How many instances an operation can get: those of its type, or the one of an unlimited type.
-fn room(sheet: Sheet, op: usize) -> usize
-    ensures { λ r. ⌜ Room sheet op r ⌝ }
-{
-    let limit = rules::instances_of(sheet, op);
-    if limit == 0 {
-        return 1;
-    }
-    limit
-}
-
-// The first instance below the limit that no operation takes, or the limit.
-fn first_untaken(
-    sheet: Sheet,
-    interval: usize,
-    table: Table,
-    op: usize,
-    start: usize,
-    limit: usize,
-) -> usize
-    ensures { λ r. ⌜ FirstUntaken sheet interval table op start limit r ⌝ }
-{
-    for u in 0..limit {
-        if untaken(sheet, interval, table, op, start, u) {
-            return u;
-        }
-    }
-    limit
-}
-
-// ---- question 10
-
-// Whether an entry is one that operation i can have.
-fn entry_allowed(sheet: Sheet, interval: usize, i: usize, p: Placement) -> bool
-    ensures { λ r. ⌜ Says (EntryAllowed sheet interval i p) r ⌝ }
-{
-    if !p.placed {
-        if p.start != 0 {
-            return false;
-        }
-        return p.instance == 0;
-    }
-    if sheet.op_count <= i {
-        return false;
-    }
-    if sheet.horizon <= p.start {
-        return false;
-    }
-    rules::instance_allowed(sheet, i, p.instance)
-}
-
-// Whether every entry of the table is.
-fn entries_allowed(sheet: Sheet, interval: usize, table: Table) -> bool
-    ensures { λ r. ⌜ Says ((i : ℕ) → EntryAllowed sheet interval i (placementAt table i)) r ⌝ }
-{
-    for i in 0..MOST_OPERATIONS {
-        let p = table.entries[i];
-        if !entry_allowed(sheet, interval, i, p) {
-            return false;
-        }
-    }
-    true
-}
-
-// Whether operation i, where it is placed, shares its instance with no rival.
-fn apart(sheet: Sheet, interval: usize, table: Table, i: usize) -> bool
-    requires { ⌜ i < mostOperations ⌝ }
-    ensures { λ r. ⌜ Says (Apart sheet interval table i) r ⌝ }
-{
-    let p = table.entries[i];
-    if !p.placed {
-        return true;
-    }
-    untaken(sheet, interval, table, i, p.start, p.instance)
-}
-
-// Whether no two placed rivals share an instance.
-fn all_apart(sheet: Sheet, interval: usize, table: Table) -> bool
-    ensures { λ r. ⌜ Says ((i : ℕ) → Apart sheet interval table i) r ⌝ }
-{
-    for i in 0..MOST_OPERATIONS {
-        if !apart(sheet, interval, table, i) {
-            return false;
-        }
-    }
-    true
-}
-
-// Whether the table is one of this sheet at this interval.
-pub fn consistent(sheet: Sheet, interval: usize, table: Table) -> bool
-    ensures { λ r. ⌜ Says (Consistent sheet interval table) r ⌝ }
-{
-    if !entries_allowed(sheet, interval, table) {
-        return false;
-    }
-    all_apart(sheet, interval, table)
-}
-
-// ---- placing
+// ---- what is asked first
 
 // Question 11.
 fn target_in_range(sheet: Sheet, op: usize, start: usize) -> bool
@@ -217,8 +76,7 @@ fn target_in_range(sheet: Sheet, op: usize, start: usize) -> bool
     start < sheet.horizon
 }
 
-// The questions before a placing, which every service that places an operation asks first: 0, or the number of the
-// refusal.
+// The questions before a placing, which an offer and a booking ask first: 0, or the number of the refusal.
 fn asked(sheet: Sheet, interval: usize, table: Table, op: usize, start: usize) -> usize
     ensures { λ r. ⌜ AskedToPlace sheet interval table op start r ⌝ }
 {
@@ -226,7 +84,7 @@ fn asked(sheet: Sheet, interval: usize, table: Table, op: usize, start: usize) -
     if refusal != 0 {
         return refusal;
     }
-    if !consistent(sheet, interval, table) {
+    if !placing_table::consistent(sheet, interval, table) {
         return 10;
     }
     if !target_in_range(sheet, op, start) {
@@ -250,20 +108,64 @@ fn refuse(answer: usize, table: Table) -> PlaceAnswer
     }
 }
 
-// Places an operation at a start on the lowest instance that is free there: the sheet's questions, 4, and 10 to 13.
+// ---- an offer, and booking it
+
+// A refused offer: all its numbers are 0.
+fn refuse_offer(answer: usize) -> OfferAnswer
+    ensures { λ r. ⌜ r ≡ noOffer answer ⌝ }
+{
+    let offer = Offer {
+        operation: 0,
+        start: 0,
+        instance: 0,
+    };
+    OfferAnswer { answer, offer }
+}
+
+// Offers an operation at a start the lowest instance that is free there: the sheet's questions, 4, and 10 to 13. The
+// table comes by value, and none goes back.
 // Dependences are not considered, and a start need only lie in the horizon: unlike a plan's, its result may come later,
 // and it may lie outside its window.
-pub fn place(sheet: Sheet, interval: usize, table: Table, op: usize, start: usize) -> PlaceAnswer
-    ensures { λ r. ⌜ PlaceAt sheet interval table op start r ⌝ }
+pub fn make_offer(
+    sheet: Sheet,
+    interval: usize,
+    table: Table,
+    op: usize,
+    start: usize,
+) -> OfferAnswer
+    ensures { λ r. ⌜ OfferAt sheet interval table op start r ⌝ }
 {
+    let refusal = asked(sheet, interval, table, op, start);
+    if refusal != 0 {
+        return refuse_offer(refusal);
+    }
+    match placing_table::lowest_free(sheet, interval, table, op, start) {
+        Vacancy::Full => refuse_offer(13),
+        Vacancy::Lowest(instance) => OfferAnswer {
+            answer: 0,
+            offer: Offer {
+                operation: op,
+                start,
+                instance,
+            },
+        },
+    }
+}
+
+// Books an offer, from this table or from anywhere: places the operation at the start on the offered instance, if that
+// is free there. The sheet's questions, 4, 10 to 12 and 17.
+pub fn book(sheet: Sheet, interval: usize, table: Table, offer: Offer) -> PlaceAnswer
+    ensures { λ r. ⌜ BookAt sheet interval table offer r ⌝ }
+{
+    let op = offer.operation;
+    let start = offer.start;
+    let instance = offer.instance;
     let refusal = asked(sheet, interval, table, op, start);
     if refusal != 0 {
         return refuse(refusal, table);
     }
-    let limit = room(sheet, op);
-    let instance = first_untaken(sheet, interval, table, op, start, limit);
-    if limit <= instance {
-        return refuse(13, table);
+    if !placing_table::is_free(sheet, interval, table, op, start, instance) {
+        return refuse(17, table);
     }
     let mut entries = table.entries;
     entries[op] = Placement {
@@ -276,6 +178,20 @@ pub fn place(sheet: Sheet, interval: usize, table: Table, op: usize, start: usiz
         instance,
         table: Table { entries },
     }
+}
+
+// ---- placing
+
+// Places an operation at a start on the lowest instance that is free there: what is offered is booked.
+pub fn place(sheet: Sheet, interval: usize, table: Table, op: usize, start: usize) -> PlaceAnswer
+    ensures { λ r. ⌜ PlaceAt sheet interval table op start r ⌝ }
+{
+    let made = make_offer(sheet, interval, table, op, start);
+    if made.answer != 0 {
+        return refuse(made.answer, table);
+    }
+    let offer = made.offer;
+    book(sheet, interval, table, offer)
 }
 
 // ---- placing into a kept table

@@ -1,6 +1,6 @@
 // Lines on standard output: a key and the numbers of an answer.
-use placing::Placement;
-use placing::Table;
+use placing_table::Placement;
+use placing_table::Table;
 use sizes::MOST_OPERATIONS;
 use test_print::number;
 use test_print::text;

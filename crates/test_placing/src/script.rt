@@ -6,8 +6,8 @@
 //   table=0         prints the table
 // Any other line ends the script.
 use crate::print;
-use placing::Placement;
-use placing::Table;
+use placing_table::Placement;
+use placing_table::Table;
 use scan::read_line;
 use sheet::Sheet;
 use sizes::MOST_OPERATIONS;
@@ -99,7 +99,7 @@ fn asked(sheet: Sheet, table: Table, s: &[u8], at: usize) -> usize {
     let consistent = read_line(s, at, b"consistent=", 1, NO_MINUS);
     if consistent.ok {
         let v = consistent.values;
-        print::verdict(placing::consistent(sheet, count_of(v[0]), table));
+        print::verdict(placing_table::consistent(sheet, count_of(v[0]), table));
         return consistent.next;
     }
     let whole = read_line(s, at, b"table=", 1, NO_MINUS);

@@ -5,9 +5,9 @@ use native.Mathlib.Omega.{arith}
 use mathlib.Core.Path.{_≡_, ap, _∙_}
 use mathlib.Core.List.{List}
 use Rattle.laws.specs.Entry.{vec}
-use Rattle.placing.specs.declared.Placement.{Placement}
-use Rattle.placing.specs.declared.Table.{Table}
-use Rattle.placing.specs.Table.{placing}
+use Rattle.placing_table.specs.declared.Placement.{Placement}
+use Rattle.placing_table.specs.declared.Table.{Table}
+use Rattle.placing_table.specs.Table.{placing}
 use Rattle.page.specs.Answers.{fullTable}
 use Rattle.page.specs.Tables.{full-none, full-more}
 use borrow.Author.Needs.{needs}

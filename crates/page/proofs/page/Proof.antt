@@ -7,8 +7,8 @@ use Rattle.laws.specs.Tests.{denied, passed}
 use Rattle.text.specs.Text.{over}
 use Rattle.sheet.specs.Facts.{ops-most}
 use Rattle.sheet.specs.Questions.{accepted}
-use Rattle.placing.specs.declared.Table.{Table}
-use Rattle.placing.specs.Table.{Consistent}
+use Rattle.placing_table.specs.declared.Table.{Table}
+use Rattle.placing_table.specs.Table.{Consistent}
 use Rattle.page_text.specs.Page.{pageText}
 use Rattle.page.specs.Answers.{Tabled}
 use Rattle.page.specs.Making.{page-asked, page-short, page-denied, page-made}

@@ -9,7 +9,7 @@ use Rattle.laws.specs.Z.{true-false}
 use Rattle.laws.specs.Tests.{denied, passed}
 use Rattle.sheet.specs.Facts.{ops-most}
 use Rattle.sheet.specs.Questions.{Accepted, accepted, refuses, goes-on, at-no, at-yes}
-use Rattle.placing.specs.Table.{Consistent, Target}
+use Rattle.placing_table.specs.Table.{Consistent, Target}
 use Rattle.placing.proofs.asked.Statement.{statement}
 use Rattle.placing.proofs.asked.Tie as tie
 

@@ -55,17 +55,17 @@ use denote.Exit.{yes}
 use Rattle.sizes.specs.Sizes.{mostOperations}
 use Rattle.placing.specs.Answers.{PlaceAt}
 use Rattle.placing.specs.Change.{storing, changed}
-use Rattle.placing.specs.declared.Table.{Table}
-use Rattle.placing.specs.declared.Placement.{Placement}
+use Rattle.placing_table.specs.declared.Table.{Table}
+use Rattle.placing_table.specs.declared.Placement.{Placement}
 use Rattle.placing.specs.declared.Change.{Change}
 use Rattle.placing.specs.declared.Outcome.{Outcome}
 use Rattle.sheet.specs.declared.Sheet.{Sheet}
 use Rattle.sheet.proofs.Sheet as S
 use Rattle.sheet.proofs.Sheet.Laws as S′
-use Rattle.placing.proofs.Table as T
-use Rattle.placing.proofs.Table.Laws as T′
-use Rattle.placing.proofs.Placement as E
-use Rattle.placing.proofs.Placement.Laws as E′
+use Rattle.placing_table.proofs.Table as T
+use Rattle.placing_table.proofs.Table.Laws as T′
+use Rattle.placing_table.proofs.Placement as E
+use Rattle.placing_table.proofs.Placement.Laws as E′
 use Rattle.placing.proofs.Change as P
 use Rattle.placing.proofs.Change.Laws as P′
 use Rattle.placing.proofs.Outcome as N

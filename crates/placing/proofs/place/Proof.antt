@@ -1,66 +1,28 @@
--- `placing::place` meets its contract: the questions before a placing, then 13, by the laws of `Asking` and `Room`.
+-- `placing::place` meets its contract: it offers and books, by the laws of `Offers`.
 -- Assumes nothing.
-use mathlib.Core.Path.{refl}
-use native.Mathlib.Omega.{arith}
+use mathlib.Core.Path.{sym, subst}
 use borrow.Author.Needs.{needs}
-use Rattle.sheet.specs.Questions.{at-no, at-yes}
-use Rattle.placing.specs.Asking.{Placeable, ready, refuses-placing, goes-on-placing, has-entry}
-use Rattle.placing.specs.Room.{lowest-free, none-free}
-use Rattle.placing.specs.Answers.{refused}
+use Rattle.placing.specs.Offers.{offer-refused, offer-booked}
+use Rattle.placing.specs.Answers.{PlaceAt}
 use Rattle.placing.proofs.place.Statement.{statement}
 use Rattle.placing.proofs.place.Tie as tie
 
-ready-here : (c : tie.Else1) → Placeable (c .before .before .args .sheet) (c .before .before .args .interval) (c .before .before .args .table) (c .before .before .args .op) (c .before .before .args .start)
-ready-here c = ready (c .before .asked .ensures) (c .if1 .left)
-
-asked-requires : tie.Need-asked-requires
-asked-requires c κs = search needs
+make-offer-requires : tie.Need-make-offer-requires
+make-offer-requires c κs = search needs
 
 refuse-requires : tie.Need-refuse-requires
 refuse-requires c κs = search needs
 
 returns : tie.Need-returns
-returns c = refuses-placing (refused _) (c .before .before .asked .ensures) (c .before .if1 .taken) (c .refuse .ensures)
+returns c =
+    subst (PlaceAt _ _ _ _ _) (sym (c .refuse .ensures)) (offer-refused (c .before .before .before .make-offer .ensures) (c .before .if1 .taken))
 
-room-requires : tie.Need-room-requires
-room-requires c κs = search needs
-
-first-untaken-requires : tie.Need-first-untaken-requires
-first-untaken-requires c κs = search needs
-
-refuse-requires-2 : tie.Need-refuse-requires-2
-refuse-requires-2 c κs = search needs
+book-requires : tie.Need-book-requires
+book-requires c κs = search needs
 
 returns-2 : tie.Need-returns-2
 returns-2 c =
-    let t = c .before .before in
-    goes-on-placing (refused _) (ready-here (t .before .before))
-    (at-no (none-free (t .before .room .ensures) (t .first-untaken .ensures) (c .before .if2 .taken)) (c .refuse2 .ensures))
-
-mul-entries : tie.Need-mul-entries
-mul-entries c = let h = has-entry (ready-here (c .before .before .before .before)) in omega arith
-
-array-set-from-entries : tie.Need-array-set-from-entries
-array-set-from-entries c = has-entry (ready-here (c .before .before .before .before))
-
-returns-3 : tie.Need-returns-3
-returns-3 c =
-    let t = c .before .before in
-    let l = lowest-free (t .before .room .ensures) (t .first-untaken .ensures) tt (c .before .if2 .left) in
-    goes-on-placing (refused _) (ready-here (t .before .before))
-    (at-yes (record { instance = t .first-untaken .result; free = l .free }) (record { instance = t .first-untaken .result; lowest = l; pinned = refl }))
+    offer-booked (c .before .before .before .before .make-offer .ensures) (c .before .before .if1 .left) (c .book .ensures)
 
 pub place-spec : {M : Type 1} → statement M
-place-spec =
-    tie.close
-    (tie.spec
-    asked-requires
-    refuse-requires
-    returns
-    room-requires
-    first-untaken-requires
-    refuse-requires-2
-    returns-2
-    mul-entries
-    array-set-from-entries
-    returns-3)
+place-spec = tie.close (tie.spec make-offer-requires refuse-requires returns book-requires returns-2)

@@ -8,8 +8,8 @@ use mathlib.Core.List.{List}
 use lib.ListN.{getD}
 use Rattle.sheet.specs.declared.Operation.{Operation}
 use Rattle.sheet.specs.Sheet.{noOperation}
-use Rattle.placing.specs.declared.Placement.{Placement}
-use Rattle.placing.specs.Table.{nothing}
+use Rattle.placing_table.specs.declared.Placement.{Placement}
+use Rattle.placing_table.specs.Table.{nothing}
 use Rattle.page_text.specs.Page.{reserves}
 use Rattle.page_text.specs.Users.{UsersOf, withUser, found, users-none, users-more}
 use borrow.Author.Needs.{needs}
