@@ -2,7 +2,6 @@
 pub mod Lines
 pub mod Text
 -- ---- laws
-pub mod Numbers
 pub mod Steps
 pub mod Unique
 pub mod RoundTrip

@@ -4,12 +4,12 @@ use mathlib.Core.Path.{_≡_}
 use mathlib.Core.Bool.{false, cond}
 use mathlib.Core.List.{List, [], _∷_, _++_}
 use lib.Dec.{eqb}
-use lib.IntN.{ℤ, pos, natAbs}
-use lib.ListN.{getD, take}
+use lib.ListN.{take}
 use Rattle.sizes.specs.Sizes.{mostOperations}
 use Rattle.laws.specs.Entry.{zeros, ZeroFrom}
 use Rattle.text.specs.Keys.{answerKey, intervalKey, atKey}
 use Rattle.scan.specs.Line.{noMinus, lineOf, onFields}
+use Rattle.scan.specs.Plain.{numberAt}
 use Rattle.plan_lines.specs.declared.PlanLines.{PlanLines}
 
 -- ---- the bytes
@@ -18,10 +18,6 @@ use Rattle.plan_lines.specs.declared.PlanLines.{PlanLines}
 pub data PlanRead : Type 0 where
   given : ℕ → List ℕ → List ℕ → PlanRead
   malformed : PlanRead
-
--- the number at a place of a line in which none carries a minus
-abbrev pub numberAt : List ℤ → ℕ → ℕ
-numberAt vs i = natAbs (getD vs i (pos 0))
 
 -- f of the number of the line with this key and one number, and of what follows the line
 abbrev pub onOne : List ℕ → List ℕ → (ℕ → List ℕ → PlanRead) → PlanRead

@@ -5,19 +5,19 @@ use mathlib.Core.List.{List, [], _∷_, _++_, append-assoc, append-nil}
 use Prim.Native.Nat.{ℕ, zero, suc, _≤_, _<_}
 use native.Mathlib.Omega.{arith}
 use lib.Dec.{eqb}
-use lib.IntN.{ℤ, pos, negsuc}
+use lib.IntN.{ℤ, pos}
 use lib.ListN.{length}
 use borrow.Author.Tests.{eqb-true, eqb-false}
 use Rattle.sizes.specs.Sizes.{mostOperations}
 use Rattle.laws.specs.Tests.{by-test}
-use Rattle.laws.specs.Z.{true-false}
 use Rattle.text.specs.Keys.{answerKey, intervalKey, atKey}
 use Rattle.text.specs.Lines.{linesText}
 use Rattle.text.specs.Sizes.{fourDigits}
 use Rattle.text.specs.Text.{lineText}
 use Rattle.text.specs.Answers.{intervalLine}
 use Rattle.scan.specs.Line.{Fields, fields, bad, noMinus, lineOf}
-use Rattle.scan.specs.RoundTrip.{Writable, reads-line, line-text}
+use Rattle.scan.specs.RoundTrip.{reads-line, line-text}
+use Rattle.scan.specs.PlainLaws.{one-plain, two-plain}
 use Rattle.plan_lines.specs.Lines.{given, placesFrom, planOf}
 use Rattle.plan_lines.specs.Steps.{no-plan, places-end, places-over, places-bad, places-more}
 use Rattle.plan_lines.specs.Steps.{no-answer, another-answer, no-interval, places}
@@ -51,22 +51,6 @@ reads-back L ts us w =
     ∙ reads-places mostOperations L [] [] ts us (w .paired) (w .few) (w .starts) (w .instances)
 
 -- ---- what reads as a plan is printed for it
-
--- one number without a minus, and two
-one-plain : (vs : List ℤ) → length vs ≡ 1 → Writable noMinus 0 vs → (n : ℕ) × (vs ≡ pos n ∷ []) × (n ≤ fourDigits)
-one-plain [] e w = absurd (omega arith)
-one-plain (pos n ∷ []) e w = (n, refl, w .0)
-one-plain (negsuc n ∷ []) e w = true-false (w .1)
-one-plain (u ∷ v ∷ vs) e w = absurd (omega arith)
-
-two-plain : (vs : List ℤ) → length vs ≡ 2 → Writable noMinus 0 vs
-    → (t : ℕ) × (u : ℕ) × (vs ≡ pos t ∷ pos u ∷ []) × (t ≤ fourDigits) × (u ≤ fourDigits)
-two-plain [] e w = absurd (omega arith)
-two-plain (v ∷ []) e w = absurd (omega arith)
-two-plain (pos t ∷ pos u ∷ []) e w = (t, u, refl, w .0, w .2 .0)
-two-plain (pos t ∷ negsuc u ∷ []) e w = true-false (w .2 .1)
-two-plain (negsuc t ∷ v ∷ []) e w = true-false (w .1)
-two-plain (t ∷ u ∷ v ∷ vs) e w = absurd (omega arith)
 
 -- what lines `at=t,u` that were read, after ts and us, say of their bytes
 record Spelled (k L : ℕ) (ts us bs : List ℕ) (L′ : ℕ) (ts′ us′ : List ℕ) : Type 0 where

@@ -9,17 +9,17 @@ use native.Mathlib.Omega.{arith}
 use lib.IntN.{pos}
 use lib.ListN.{length, take, drop, set, length-drop, length-set, length-replicate, drop-of-length-le}
 use lib.Seq.{take-suc-set, getD-set-other}
-use borrow.Author.Tests.{eq-eqb, ne-eqb}
+use borrow.Author.Tests.{eq-eqb, ne-eqb, not-true, not-false}
 use Rattle.sizes.specs.Sizes.{mostOperations}
 use Rattle.laws.specs.Entry.{zeros, ZeroFrom}
 use Rattle.laws.specs.Store.{all-zero}
 use Rattle.laws.specs.Z.{true-false}
 use Rattle.text.specs.Keys.{answerKey, intervalKey, atKey}
+use Rattle.scan.specs.declared.PlainLine.{PlainLine}
 use Rattle.scan.specs.Line.{fields, bad, noMinus, lineOf}
-use Rattle.plan_lines.specs.declared.Numbers.{Numbers}
+use Rattle.scan.specs.PlainLaws.{PlainAt, is-line, is-bad}
 use Rattle.plan_lines.specs.declared.PlanLines.{PlanLines}
 use Rattle.plan_lines.specs.Lines.{PlanRead, given, malformed, placesFrom, planOf, seen, noLines, LinesFit}
-use Rattle.plan_lines.specs.Numbers.{NumbersAt, is-line, is-bad}
 
 pub no-plan : {L : ℕ} {ts us : List ℕ} → given L ts us ≡ malformed → ⊥
 no-plan e = let z : _≡_ {A = ℕ} 0 1 = cc in omega arith
@@ -128,14 +128,14 @@ module _ {s : List ℕ} {L : ℕ} {want : PlanRead} {ts us : List ℕ} {p i : �
         let z : ahead s L ts us p i ≡ malformed = rw q (places-over L (take i ts) (take i us) (drop p s) some) in
         none e (sym (t .same) ∙ z)
 
-    module _ (m : i < mostOperations) (n : Numbers) (e : NumbersAt s p atKey 2 n) where
+    module _ (m : i < mostOperations) (n : PlainLine) (e : PlainAt s p atKey 2 n) where
       left : mostOperations - i ≡ suc (mostOperations - (i + 1))
       left = omega arith
 
       pub stops : {r : PlanLines} → not (n .ok) ≡ true → r ≡ noLines → Gives want r
       stops f q =
           let z : ahead s L ts us p i ≡ malformed =
-          rw left (places-bad L (take i ts) (take i us) _ (drop p s) some (is-bad s p atKey 2 n e f)) in
+          rw left (places-bad L (take i ts) (take i us) _ (drop p s) some (is-bad s p atKey 2 n e (not-true (n .ok) f))) in
           none q (sym (t .same) ∙ z)
 
       pub turn : not (n .ok) ≡ false → Turn s L want (set ts i (n .first)) (set us i (n .second)) (n .next) (i + 1)
@@ -143,7 +143,7 @@ module _ {s : List ℕ} {L : ℕ} {want : PlanRead} {ts us : List ℕ} {p i : �
           let x = front-more (n .first) (t .starts) m in
           let y = front-more (n .second) (t .instances) m in
           let z : ahead s L ts us p i ≡ ahead s L (set ts i (n .first)) (set us i (n .second)) (n .next) (i + 1) =
-          rw (left, x, y) (places-more L (take i ts) (take i us) _ (drop p s) _ _ _ some (is-line s p atKey 2 n e f)) in
+          rw (left, x, y) (places-more L (take i ts) (take i us) _ (drop p s) _ _ _ some (is-line s p atKey 2 n e (not-false (n .ok) f))) in
           record {
             few = omega arith;
             starts = zero-more (n .first) (t .starts);

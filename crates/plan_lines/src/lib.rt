@@ -2,12 +2,10 @@
 // knows no sheet: whether there is a line for each operation, and whether the plan keeps the rules, is asked elsewhere.
 ghost use mathlib.Core.Path.{_≡_};
 ghost use mathlib.Core.List.{[]};
-ghost use Prim.Native.Nat.{_≤_};
 ghost use lib.ListN.{drop};
 ghost use Rattle.sizes.specs.Sizes.{mostOperations};
 ghost use Rattle.plan_lines.specs.Lines.{planOf, placesFrom, seen, noLines, LinesFit};
-ghost use Rattle.plan_lines.specs.Numbers.{NumbersAt};
-use scan::NO_MINUS;
+use scan::read_plain;
 use sizes::MOST_OPERATIONS;
 
 // The interval that a plan's lines name, and its starts and instances, one of each per line `at=`; 0 past them. Of
@@ -32,38 +30,6 @@ fn no_lines() -> PlanLines
     }
 }
 
-// The first two numbers of a line, 0 past its numbers, and the place after its line feed. Of a line that is not ok
-// everything is 0.
-struct Numbers {
-    ok: bool,
-    first: usize,
-    second: usize,
-    next: usize,
-}
-
-// The line at `at` with this key and count numbers, at most two.
-fn read_numbers(s: &[u8], at: usize, key: &[u8], count: usize) -> Numbers
-    requires { ⌜ count ≤ 2 ⌝ }
-    ensures { λ r. ⌜ NumbersAt (now (s .entry)) at (now (key .entry)) count r ⌝ }
-{
-    let line = scan::read_line(s, at, key, count, NO_MINUS);
-    if !line.ok {
-        return Numbers {
-            ok: false,
-            first: 0,
-            second: 0,
-            next: 0,
-        };
-    }
-    let values = line.values;
-    Numbers {
-        ok: true,
-        first: values[0] as usize,
-        second: values[1] as usize,
-        next: line.next,
-    }
-}
-
 // The lines `at=t,u` from `at` to the end of the bytes, of a plan at that interval.
 fn read_places(s: &[u8], at: usize, interval: usize) -> PlanLines
     ensures { λ r. ⌜ seen r ≡ placesFrom mostOperations interval [] [] (drop at (now (s .entry))) ⌝ }
@@ -77,7 +43,7 @@ fn read_places(s: &[u8], at: usize, interval: usize) -> PlanLines
         if MOST_OPERATIONS <= i {
             return no_lines();
         }
-        let line = read_numbers(s, p, b"at=", 2);
+        let line = read_plain(s, p, b"at=", 2);
         if !line.ok {
             return no_lines();
         }
@@ -100,14 +66,14 @@ pub fn read(bytes: &[u8]) -> PlanLines
     ensures { λ r. ⌜ seen r ≡ planOf (now (bytes .entry)) ⌝ }
     ensures { λ r. ⌜ LinesFit r ⌝ }
 {
-    let answer = read_numbers(bytes, 0, b"answer=", 1);
+    let answer = read_plain(bytes, 0, b"answer=", 1);
     if !answer.ok {
         return no_lines();
     }
     if answer.first != 0 {
         return no_lines();
     }
-    let interval = read_numbers(bytes, answer.next, b"interval=", 1);
+    let interval = read_plain(bytes, answer.next, b"interval=", 1);
     if !interval.ok {
         return no_lines();
     }

@@ -3,7 +3,7 @@
 use mathlib.Core.Path.{_≡_, refl, sym, ap, _∙_}
 use mathlib.Core.Bool.{Bool, true, false}
 use mathlib.Core.List.{List}
-use Prim.Native.Nat.{ℕ, _<_}
+use Prim.Native.Nat.{ℕ, _≤_, _<_}
 use native.Mathlib.Decide.{decLt}
 use native.Mathlib.Omega.{arith}
 use lib.IntN.{ℤ, pos}
@@ -11,6 +11,10 @@ use lib.ListN.{length, drop, take, getD, length-drop}
 use lib.Seq.{getD-take, ext-getD}
 use Rattle.scan.specs.Line.{fields, bad, seenLine, LineFits, valueAt}
 use Rattle.scan.specs.declared.Line.{Line}
+
+-- a place within the bytes is fixed by the bytes from there on
+pub same-place : (s : List ℕ) {p q : ℕ} → p ≤ length s → q ≤ length s → drop p s ≡ drop q s → p ≡ q
+same-place s {p} {q} h m e = omega (arith, length-drop p s, length-drop q s, ap length e)
 
 module _ (s : List ℕ) (k : ℕ) (l m : Line) (f : LineFits s k l) (g : LineFits s k m) where
   same-values : take k (l .values) ≡ take k (m .values) → l .values ≡ m .values
@@ -20,16 +24,7 @@ module _ (s : List ℕ) (k : ℕ) (l m : Line) (f : LineFits s k l) (g : LineFit
       at i (yes h) = sym (getD-take k (l .values) i (pos 0) h) ∙ ap (λ (x : List ℤ). getD x i (pos 0)) e ∙ getD-take k (m .values) i (pos 0) h
       at i (no h) = f .past i (omega arith) ∙ sym (g .past i (omega arith))
 
-  same-next : drop (l .next) s ≡ drop (m .next) s → l .next ≡ m .next
-  same-next e =
-      let a = length-drop (l .next) s in
-      let b = length-drop (m .next) s in
-      let c = ap length e in
-      let x = f .next in
-      let y = g .next in
-      omega arith
-
-no-line : {vs : List ℤ} {rest : List ℕ} → fields vs rest ≡ bad → ⊥
+pub no-line : {vs : List ℤ} {rest : List ℕ} → fields vs rest ≡ bad → ⊥
 no-line e = let z : _≡_ {A = ℕ} 0 1 = cc in omega arith
 
 one-at : (s : List ℕ) (k : ℕ) (a b : Bool) (l m : Line) → l .ok ≡ a → m .ok ≡ b → LineFits s k l → LineFits s k m → seenLine s k l ≡ seenLine s k m → l ≡ m
@@ -37,7 +32,7 @@ unfolding seenLine
 one-at s k true true l m p q f g e =
     let z : fields (take k (l .values)) (drop (l .next) s) ≡ fields (take k (m .values)) (drop (m .next) s) = simp (p, q) at e in
     let v = same-values s k l m f g (cc) in
-    let n = same-next s k l m f g (cc) in
+    let n = same-place s (f .next) (g .next) (cc) in
     λ i. record { ok = (p ∙ sym q) i; values = v i; next = n i }
 one-at s k true false l m p q f g e = absurd (no-line (simp (p, q) at e))
 one-at s k false true l m p q f g e = absurd (no-line (sym (simp (p, q) at e)))

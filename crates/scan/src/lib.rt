@@ -6,6 +6,7 @@ ghost use lib.Dec.{eqb};
 ghost use lib.ListN.{length, drop};
 ghost use Rattle.scan.specs.Number.{classOf, number, moreDigits, seen, within, signedOf, signedNumber, wholeOf, seenWhole, withinWhole};
 ghost use Rattle.scan.specs.Line.{mostNumbers, stripped, seenPlace, withinPlace, fieldOf, fieldsFrom, dueLine, seenLine, LineFits};
+ghost use Rattle.scan.specs.Plain.{plainLine, seenPlain, PlainFits};
 ghost use Rattle.text.specs.Sizes.{fourDigits};
 ghost use Rattle.text.specs.Text.{endOf};
 
@@ -261,5 +262,48 @@ pub fn read_line(s: &[u8], at: usize, key: &[u8], count: usize, minus: usize) ->
     match after_key(s, at, key) {
         Place::After(start) => read_numbers(s, start, count, minus),
         Place::Missing => none,
+    }
+}
+
+// The most numbers of a plain line: one of which no number carries a minus.
+const MOST_PLAIN: usize = 3;
+
+// A plain line's numbers and the place after its line feed. What is past its numbers is 0; of a line that is not ok
+// everything is 0.
+pub struct PlainLine {
+    pub ok: bool,
+    pub first: usize,
+    pub second: usize,
+    pub third: usize,
+    pub next: usize,
+}
+
+// The plain line at `at` with this key (its equals sign included) and count numbers, one to three. With any other
+// count, as with any malformed line, the answer is not ok.
+pub fn read_plain(s: &[u8], at: usize, key: &[u8], count: usize) -> PlainLine
+    ensures { λ r. ⌜ seenPlain (now (s .entry)) count r ≡ plainLine (now (key .entry)) count (drop at (now (s .entry))) ⌝ }
+    ensures { λ r. ⌜ PlainFits (now (s .entry)) count r ⌝ }
+{
+    let none = PlainLine {
+        ok: false,
+        first: 0,
+        second: 0,
+        third: 0,
+        next: 0,
+    };
+    if MOST_PLAIN < count {
+        return none;
+    }
+    let line = read_line(s, at, key, count, NO_MINUS);
+    if !line.ok {
+        return none;
+    }
+    let values = line.values;
+    PlainLine {
+        ok: true,
+        first: values[0] as usize,
+        second: values[1] as usize,
+        third: values[2] as usize,
+        next: line.next,
     }
 }

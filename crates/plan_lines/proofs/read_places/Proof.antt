@@ -29,11 +29,11 @@ returns c =
     let l = c .before .before in
     over (l .before .loop .inv) (l .loop-test .taken) (omega (arith, c .before .if1 .taken)) (c .no-lines .ensures)
 
-slice-aggregate-read-numbers : tie.Need-slice-aggregate-read-numbers Inv-loop μ-loop
-slice-aggregate-read-numbers c = search needs
+slice-aggregate-read-plain : tie.Need-slice-aggregate-read-plain Inv-loop μ-loop
+slice-aggregate-read-plain c = search needs
 
-read-numbers-requires : tie.Need-read-numbers-requires Inv-loop μ-loop
-read-numbers-requires c κs = search needs
+read-plain-requires : tie.Need-read-plain-requires Inv-loop μ-loop
+read-plain-requires c κs = search needs
 
 no-lines-requires-2 : tie.Need-no-lines-requires-2 Inv-loop μ-loop
 no-lines-requires-2 c κs = search needs
@@ -43,7 +43,7 @@ returns-2 c =
     let r = c .before .before .before in
     let e = r .before .before in
     let l = e .before in
-    stops (l .before .loop .inv) (l .loop-test .taken) (e .if1 .left) _ (r .read-numbers .ensures)
+    stops (l .before .loop .inv) (l .loop-test .taken) (e .if1 .left) _ (r .read-plain .ensures)
     (c .before .if2 .taken) (c .no-lines2 .ensures)
 
 mul-starts : tie.Need-mul-starts Inv-loop μ-loop
@@ -69,7 +69,7 @@ loop-again c =
     let r = c .before .before in
     let e = r .before .before in
     let l = e .before in
-    turn (l .before .loop .inv) (l .loop-test .taken) (e .if1 .left) _ (r .read-numbers .ensures) (c .if2 .left)
+    turn (l .before .loop .inv) (l .loop-test .taken) (e .if1 .left) _ (r .read-plain .ensures) (c .if2 .left)
 
 returns-3 : tie.Need-returns-3 Inv-loop μ-loop
 returns-3 c = done (c .before .loop .inv) (c .loop-test .left)
@@ -83,8 +83,8 @@ read-places-spec =
     loop-holds
     no-lines-requires
     returns
-    slice-aggregate-read-numbers
-    read-numbers-requires
+    slice-aggregate-read-plain
+    read-plain-requires
     no-lines-requires-2
     returns-2
     mul-starts
