@@ -1,0 +1,9 @@
+-- ---- definitions to believe
+pub mod Script
+pub mod Text
+-- ---- laws
+pub mod Steps
+pub mod Walk
+pub mod Unique
+pub mod RoundTrip
+pub mod Ahead
