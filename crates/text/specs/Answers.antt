@@ -20,3 +20,11 @@ loopLine ks = record { key = key.loopKey; values = map pos ks }
 -- `at=t,u`, an operation's start and instance
 abbrev pub atLine : ℕ → ℕ → Line
 atLine t u = record { key = key.atKey; values = pos t ∷ pos u ∷ [] }
+
+-- `instance=`
+abbrev pub instanceLine : ℕ → Line
+instanceLine u = countLine key.instanceKey u
+
+-- `entry=p,t,u`, an operation's entry of the placing table: p is 1 where it is placed, else 0; its start and instance
+abbrev pub entryLine : ℕ → ℕ → ℕ → Line
+entryLine p t u = record { key = key.entryKey; values = pos p ∷ pos t ∷ pos u ∷ [] }
