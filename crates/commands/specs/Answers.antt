@@ -1,6 +1,6 @@
 -- From the lines of a service's answer to what its command prints.
 -- Assumes nothing.
-use mathlib.Core.Path.{_≡_, refl, sym, ap, subst, _∙_}
+use mathlib.Core.Path.{_≡_, refl, ap, subst, _∙_}
 use mathlib.Core.Bool.{Bool, true, false, cond}
 use mathlib.Core.List.{List, [], _∷_}
 use Prim.Native.Nat.{ℕ, _≤_}
@@ -11,7 +11,7 @@ use borrow.Author.Tests.{eq-eqb, ne-eqb}
 use Rattle.text.specs.declared.Written.{Written}
 use Rattle.text.specs.Text.{bufferOf}
 use Rattle.text.specs.Line.{writtenOf}
-use Rattle.text.specs.Writing.{written-within}
+use Rattle.text.specs.PutLaws.{put-as}
 use Rattle.text.specs.Keys.{orderKey}
 use Rattle.text.specs.Lines.{Line, countLine, linesText}
 use Rattle.text.specs.Answers.{answerLine, intervalLine, loopLine}
@@ -108,14 +108,7 @@ module _ (s : Sheet) (L : ℕ) (a : PlanAnswer) where
 -- ---- a list of lines that is put into the buffer
 
 pub put : {P : List ℕ → Type 0} {old new : List ℕ} {r : Written} {ls : Lines} → Lists P ls → r ≡ writtenOf (shown ls) old → new ≡ bufferOf (shown ls) old → Put P old r new
-put {ls = ls} p e f = let m = shown-most (p .whole) in record { text = shown ls; holds = p .holds; enough = omega arith; answer = e; buffer = f }
-
-pub weaken : {P Q : List ℕ → Type 0} {old new : List ℕ} {r : Written} → ((t : List ℕ) → P t → Q t) → Put P old r new → Put Q old r new
-weaken f p = record { text = p .text; holds = f (p .text) (p .holds); enough = p .enough; answer = p .answer; buffer = p .buffer }
-
--- the bytes counted are bytes of the lent buffer
-pub put-within : {P : List ℕ → Type 0} {old new : List ℕ} {r : Written} → Put P old r new → r .count ≤ length old
-put-within {old = old} p = subst (λ (w : Written). w .count ≤ length old) (sym (p .answer)) (written-within (p .text) old)
+put p e f = let m = shown-most (p .whole) in put-as refl (p .holds) (omega arith) e f
 
 -- ---- the plan's lines
 

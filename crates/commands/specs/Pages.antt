@@ -11,6 +11,8 @@ use Rattle.text.specs.Text.{over, bufferOf}
 use Rattle.text.specs.Line.{writtenOf}
 use Rattle.text.specs.Writing.{length-over}
 use Rattle.text.specs.Sizes.{threeDigits}
+use Rattle.text.specs.Answers.{refusalText}
+use Rattle.text.specs.PutLaws.{put-as}
 use Rattle.sheet.specs.declared.Sheet.{Sheet}
 use Rattle.sheet.specs.Sheet.{InRange}
 use Rattle.sheet.specs.Facts.{ops-most}
@@ -23,7 +25,7 @@ use Rattle.page.specs.Answers.{fullTable, planPage, Tabled, PageAnswer, PageAt}
 use Rattle.page.specs.OfPlans.{cut-page, plan-full}
 use Rattle.words.specs.declared.Command.the-variants.{Page}
 use Rattle.commands.specs.Listing.{firstPage}
-use Rattle.commands.specs.Prints.{Serves, page, refusalText, ServesPage, Put}
+use Rattle.commands.specs.Prints.{Serves, page, ServesPage, Put}
 use Rattle.commands.specs.Answers.{page-given}
 
 abbrev number : PageAnswer → ℕ
@@ -62,15 +64,9 @@ module _ {s : Sheet} {L : ℕ} (ok : InRange s) {ts us old : List ℕ} (enough :
 
   pub given-put : PageAt s L ts us old a → number a ≡ 0 → {out new : List ℕ} {r : Written}
       → r ≡ writtenOf (take (a .written .count) (a .buffer)) out → new ≡ bufferOf (take (a .written .count) (a .buffer)) out → Put (ServesPage s L ts us) out r new
-  given-put p z {out} e f =
+  given-put p z e f =
       let q = page-printed p z in
-      record {
-        text = planPage s L ts us;
-        holds = q .0;
-        enough = omega (arith, q .2);
-        answer = e ∙ ap (λ (t : List ℕ). writtenOf t out) (q .1);
-        buffer = f ∙ ap (λ (t : List ℕ). bufferOf t out) (q .1);
-      }
+      put-as (q .1) (q .0) (omega (arith, q .2)) e f
 
   -- the bytes counted are bytes of the buffer
   pub page-within : PageAt s L ts us old a → a .written .count ≤ length (a .buffer)

@@ -1,14 +1,12 @@
 -- What a command prints for the bytes of a sheet, and where it goes.
-use Prim.Native.Nat.{ℕ, _≤_}
+use Prim.Native.Nat.{ℕ}
 use mathlib.Core.Path.{_≡_}
 use mathlib.Core.List.{List, [], _∷_}
 use lib.IntN.{ℤ}
-use lib.ListN.{length}
 use Rattle.text.specs.declared.Written.{Written}
-use Rattle.text.specs.Text.{bufferOf}
-use Rattle.text.specs.Line.{writtenOf}
 use Rattle.text.specs.Lines.{linesText}
-use Rattle.text.specs.Answers.{answerLine}
+use Rattle.text.specs.Answers.{answerLine, refusalText}
+use Rattle.text.specs.Put as lent
 use Rattle.dependence.specs.declared.bound.Bound as recurrence
 use Rattle.dependence.specs.declared.loops.BadWalk as loops
 use Rattle.dependence.specs.declared.starts.Starts as earliest
@@ -48,10 +46,6 @@ pub data Prints (bytes : List ℕ) (command : Command) : List ℕ → Type 0 whe
 
 -- ---- a plan that is given besides the sheet, by its starts and instances
 
--- the number of a refusal alone
-abbrev pub refusalText : ℕ → List ℕ
-refusalText n = linesText (answerLine n ∷ [])
-
 -- of a sheet that was read: 4 and 10, then the plan's page
 abbrev pub ServesPage : Sheet → ℕ → List ℕ → List ℕ → List ℕ → Type 0
 ServesPage s L ts us = AtInterval refusalText s L (IfTabled refusalText s L ts us (Is (planPage s L ts us)))
@@ -67,12 +61,8 @@ abbrev pub room : ℕ
 room = 24576
 
 -- a text of which P holds, at the front of the buffer old where the whole of it fits, else 9
-pub record Put (P : List ℕ → Type 0) (old : List ℕ) (r : Written) (new : List ℕ) : Type 0 where
-  pub text : List ℕ
-  pub holds : P text
-  pub enough : length text ≤ room
-  pub answer : r ≡ writtenOf text old
-  pub buffer : new ≡ bufferOf text old
+abbrev pub Put : (List ℕ → Type 0) → List ℕ → Written → List ℕ → Type 0
+Put = lent.Put room
 
 -- all that a command prints
 abbrev pub Answered : Command → List ℕ → List ℕ → Written → List ℕ → Type 0

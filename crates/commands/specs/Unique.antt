@@ -9,9 +9,9 @@ use Rattle.sizes.specs.Sizes.{mostOperations}
 use Rattle.laws.specs.Entry.{cell}
 use Rattle.laws.specs.Each.{each-same}
 use Rattle.text.specs.declared.Written.{Written}
-use Rattle.text.specs.Text.{bufferOf}
-use Rattle.text.specs.Line.{writtenOf}
 use Rattle.text.specs.Lines.{linesText}
+use Rattle.text.specs.Answers.{refusalText}
+use Rattle.text.specs.PutLaws.{put-one}
 use Rattle.dependence.specs.declared.bound.Bound as recurrence
 use Rattle.dependence.specs.declared.loops.BadWalk as loops
 use Rattle.dependence.specs.declared.starts.Starts as earliest
@@ -35,7 +35,7 @@ use Rattle.words.specs.declared.Command.{Command}
 use Rattle.words.specs.declared.Command.the-variants.{Write}
 use Rattle.commands.specs.Listing.{cellOf, rowLine, boundsLines, startsLines, separationsLines, planLines, orderLines, firstPage, answerAt}
 use Rattle.commands.specs.Prints as prints
-use Rattle.commands.specs.Prints.{Serves, Prints, refusalText, PrintsPage, Put, Answered, AnsweredPage}
+use Rattle.commands.specs.Prints.{Serves, Prints, PrintsPage, Answered, AnsweredPage}
 
 module _ {s : Sheet} (ok : InRange s) where
   -- one table, cell by cell
@@ -83,13 +83,6 @@ prints-one {bytes} {c} x y (prints.read z p) (prints.read _ q) = serves-one (rea
 
 page-one : (bytes : List ℕ) {L : ℕ} {ts us : List ℕ} → One (PrintsPage bytes L ts us)
 page-one bytes = asked-one (is-one _) (at-interval-one refusalText (asked-one (is-one (refusalText 10)) (is-one _)))
-
-put-one : {P : List ℕ → Type 0} {old : List ℕ} {r r′ : Written} {new new′ : List ℕ} → One P → Put P old r new → Put P old r′ new′ → (r ≡ r′) × (new ≡ new′)
-put-one {old = old} one p q =
-    let e = one (p .text) (q .text) (p .holds) (q .holds) in (
-      p .answer ∙ ap (λ (t : List ℕ). writtenOf t old) e ∙ sym (q .answer),
-      p .buffer ∙ ap (λ (t : List ℕ). bufferOf t old) e ∙ sym (q .buffer),
-    )
 
 -- at most one answer and one buffer fit
 pub once : {bytes old : List ℕ} {c : Command} {r r′ : Written} {new new′ : List ℕ} → Answered c bytes old r new → Answered c bytes old r′ new′ → (r ≡ r′) × (new ≡ new′)

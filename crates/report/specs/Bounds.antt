@@ -15,7 +15,7 @@ use Rattle.text.specs.Keys as key
 use Rattle.text.specs.Text.{signedText}
 use Rattle.text.specs.Lines.{Line, lineTextOf, linesText}
 use Rattle.text.specs.Bounds.{Within, natural-most, line-most, cons-length, nil-length}
-use Rattle.text.specs.Answers.{answerLine, intervalLine, loopLine, atLine}
+use Rattle.text.specs.Answers.{answerLine, intervalLine, loopLine, atLine, refusalText}
 use Rattle.sheet.specs.declared.Sheet.{Sheet}
 use Rattle.plan.specs.declared.PlanAnswer.{PlanAnswer}
 use Rattle.report.specs.Print.{detail, intervalLines}
@@ -138,7 +138,7 @@ module _ (s : Sheet) (L : ℕ) (a : PlanAnswer) (small : SmallAnswer s L a) wher
 
 -- ---- the line `answer=` alone
 
-pub answer-most : (n : ℕ) → n ≤ threeDigits → length (linesText (answerLine n ∷ [])) ≤ answerMost
+pub answer-most : (n : ℕ) → n ≤ threeDigits → length (refusalText n) ≤ answerMost
 answer-most n h =
     let c = cons-length (answerLine n) [] in
     let z = nil-length in
@@ -146,9 +146,9 @@ answer-most n h =
     omega arith
 
 -- its bytes, whichever the answer is
-pub answer-short : {n r : ℕ} → n ≤ threeDigits → r ≡ length (linesText (answerLine n ∷ [])) → r ≤ answerMost
+pub answer-short : {n r : ℕ} → n ≤ threeDigits → r ≡ length (refusalText n) → r ≤ answerMost
 answer-short {n} h e = let b = answer-most n h in omega arith
 
-pub answer-text : (n : ℕ) → linesText (answerLine n ∷ []) ≡ lineTextOf (answerLine n)
+pub answer-text : (n : ℕ) → refusalText n ≡ lineTextOf (answerLine n)
 unfolding linesText
 answer-text n = append-nil (lineTextOf (answerLine n))

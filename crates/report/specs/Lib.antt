@@ -2,8 +2,8 @@
 pub mod Print
 pub mod PlanText
 pub mod IntervalText
-pub mod Printing
 -- ---- laws
+pub mod Printing
 pub mod Small
 pub mod Places
 pub mod Bounds

@@ -1,4 +1,4 @@
--- What leastplan prints: the lines of one interval, and of a whole run.
+-- What leastplan prints: the lines of one interval, and of a whole run; and where it goes.
 use Prim.Native.Nat.{ℕ, suc, _<_, _≤_}
 use mathlib.Core.Path.{_≡_}
 use mathlib.Core.Bool.{cond}
@@ -7,8 +7,10 @@ use lib.Dec.{eqb}
 use lib.ListN.{take}
 use Rattle.laws.specs.Entry.{vec}
 use Rattle.laws.specs.Each.{each}
-use Rattle.text.specs.Lines.{Line}
+use Rattle.text.specs.declared.Written.{Written}
+use Rattle.text.specs.Lines.{Line, linesText}
 use Rattle.text.specs.Answers.{answerLine, intervalLine, loopLine, atLine}
+use Rattle.text.specs.Put.{Put}
 use Rattle.sheet.specs.declared.Sheet.{Sheet}
 use Rattle.reader.specs.Read.{readOf}
 use Rattle.plan.specs.declared.PlanAnswer.{PlanAnswer}
@@ -35,3 +37,17 @@ pub data Run (s : Sheet) : ℕ → List Line → Type 0 where
 pub data Printed (bytes : List ℕ) : List Line → Type 0 where
   refused : (readOf bytes .answer ≡ 0 → ⊥) → Printed bytes (answerLine (readOf bytes .answer) ∷ [])
   read : readOf bytes .answer ≡ 0 → {ls : List Line} → Run (readOf bytes .sheet) 1 ls → Printed bytes ls
+
+-- their text
+pub data PrintedText (bytes : List ℕ) : List ℕ → Type 0 where
+  text : {ls : List Line} → Printed bytes ls → PrintedText bytes (linesText ls)
+
+-- ---- the lent buffer
+
+-- bytes that are enough for whatever leastplan prints
+abbrev pub room : ℕ
+room = 8192
+
+-- all that leastplan prints
+abbrev pub Reported : List ℕ → List ℕ → Written → List ℕ → Type 0
+Reported bytes = Put room (PrintedText bytes)

@@ -1,7 +1,7 @@
 -- Laws of a run: at most one list of lines fits a sheet, and the lines of the intervals go one after the other into a
 -- buffer.
 -- Assumes nothing.
-use mathlib.Core.Path.{_≡_, refl, sym, ap, ap₂, subst, _∙_}
+use mathlib.Core.Path.{_≡_, refl, sym, ap, ap₂, _∙_}
 use mathlib.Core.List.{List, [], _++_, append-assoc}
 use Prim.Native.Nat.{ℕ, _+_, _-_, _≤_}
 use native.Mathlib.Omega.{arith}
@@ -13,12 +13,13 @@ use Rattle.text.specs.declared.Written.{Written}
 use Rattle.text.specs.Line.{writtenOf}
 use Rattle.text.specs.Lines.{Line, linesText}
 use Rattle.text.specs.Filling.{lines-append}
-use Rattle.text.specs.Writing.{written-within, length-over, over-none, extend, part-back, pasted}
+use Rattle.text.specs.PutLaws.{put-as, put-one}
+use Rattle.text.specs.Writing.{length-over, over-none, extend, part-back, pasted}
 use Rattle.sheet.specs.declared.Sheet.{Sheet}
 use Rattle.plan.specs.declared.PlanAnswer.{PlanAnswer}
 use Rattle.plan.specs.Answers.{PlanAt}
 use Rattle.plan.specs.Unique.{plan-at-unique}
-use Rattle.report.specs.Print.{intervalLines, Run, none, stops, goes-on, Printed, refused, read}
+use Rattle.report.specs.Print.{intervalLines, Run, none, stops, goes-on, Printed, refused, read, PrintedText, text, room, Reported}
 
 pub run-unique : {s : Sheet} {L : ℕ} {ls ms : List Line} → Run s L ls → Run s L ms → ls ≡ ms
 run-unique (none a) (none b) = refl
@@ -40,34 +41,22 @@ pub record Printing (s : Sheet) (old out : List ℕ) (L at : ℕ) : Type 0 where
   pub fits : at ≤ length old
 
 -- lines of which P holds are at the front of the buffer old, up to the place at
-pub record Put (P : List Line → Type 0) (old out : List ℕ) (at : ℕ) : Type 0 where
+pub record Front (P : List Line → Type 0) (old out : List ℕ) (at : ℕ) : Type 0 where
   pub lines : List Line
   pub holds : P lines
   pub place : at ≡ length (linesText lines)
   pub buffer : out ≡ over (linesText lines) old
   pub fits : at ≤ length old
 
-pub weaken : {P Q : List Line → Type 0} {old out : List ℕ} {at : ℕ} → ((ls : List Line) → P ls → Q ls) → Put P old out at → Put Q old out at
+pub weaken : {P Q : List Line → Type 0} {old out : List ℕ} {at : ℕ} → ((ls : List Line) → P ls → Q ls) → Front P old out at → Front Q old out at
 weaken f p = record { lines = p .lines; holds = f (p .lines) (p .holds); place = p .place; buffer = p .buffer; fits = p .fits }
 
-pub put-size : {P : List Line → Type 0} {old out : List ℕ} {at : ℕ} → Put P old out at → length out ≡ length old
-put-size {P} {old} p = let f = p .fits in let e = p .place in ap length (p .buffer) ∙ length-over (linesText (p .lines)) old (omega arith)
+pub front-size : {P : List Line → Type 0} {old out : List ℕ} {at : ℕ} → Front P old out at → length out ≡ length old
+front-size {P} {old} p = let f = p .fits in let e = p .place in ap length (p .buffer) ∙ length-over (linesText (p .lines)) old (omega arith)
 
-put-text : {P : List Line → Type 0} {old out : List ℕ} {at : ℕ} (p : Put P old out at) → take at out ≡ linesText (p .lines)
+front-text : {P : List Line → Type 0} {old out : List ℕ} {at : ℕ} (p : Front P old out at) → take at out ≡ linesText (p .lines)
 unfolding over
-put-text {P} {old} {out} {at} p = ap (take at) (p .buffer) ∙ take-at (linesText (p .lines)) (drop (length (linesText (p .lines))) old) at (sym (p .place))
-
--- bytes that are enough for whatever leastplan prints
-abbrev pub room : ℕ
-room = 8192
-
--- what the whole output of leastplan is, and where it goes
-pub record Reported (bytes old : List ℕ) (r : Written) (new : List ℕ) : Type 0 where
-  pub lines : List Line
-  pub printed : Printed bytes lines
-  pub enough : length (linesText lines) ≤ room
-  pub answer : r ≡ writtenOf (linesText lines) old
-  pub buffer : new ≡ bufferOf (linesText lines) old
+front-text {P} {old} {out} {at} p = ap (take at) (p .buffer) ∙ take-at (linesText (p .lines)) (drop (length (linesText (p .lines))) old) at (sym (p .place))
 
 printed-unique : {bytes : List ℕ} {ls ms : List Line} → Printed bytes ls → Printed bytes ms → ls ≡ ms
 printed-unique (refused a) (refused b) = refl
@@ -75,32 +64,20 @@ printed-unique (refused a) (read b _) = absurd (a b)
 printed-unique (read a _) (refused b) = absurd (b a)
 printed-unique (read a p) (read b q) = run-unique p q
 
+text-unique : {bytes : List ℕ} (t u : List ℕ) → PrintedText bytes t → PrintedText bytes u → t ≡ u
+text-unique _ _ (text p) (text q) = ap linesText (printed-unique p q)
+
 -- at most one answer and one buffer fit
 pub once : {bytes old : List ℕ} {r r′ : Written} {new new′ : List ℕ} → Reported bytes old r new → Reported bytes old r′ new′ → (r ≡ r′) × (new ≡ new′)
-once {bytes} {old} p q =
-    let e = printed-unique (p .printed) (q .printed) in (
-      p .answer ∙ ap (λ (ls : List Line). writtenOf (linesText ls) old) e ∙ sym (q .answer),
-      p .buffer ∙ ap (λ (ls : List Line). bufferOf (linesText ls) old) e ∙ sym (q .buffer),
-    )
-
--- the bytes counted are bytes of the lent buffer
-pub reported-within : {bytes old : List ℕ} {r : Written} {new : List ℕ} → Reported bytes old r new → r .count ≤ length old
-reported-within {old = old} p = subst (λ (w : Written). w .count ≤ length old) (sym (p .answer)) (written-within (linesText (p .lines)) old)
+once = put-one text-unique
 
 -- the text that was put at the front of a buffer with that room, as it goes on
-pub reported : {bytes old : List ℕ} {r : Written} {new : List ℕ} {scratch : List ℕ} (text : List ℕ) (n : ℕ) → length scratch ≡ room → Put (Printed bytes) scratch text n
-    → r ≡ writtenOf (take n text) old → new ≡ bufferOf (take n text) old → Reported bytes old r new
-reported {bytes} {old} text n l p e f =
-    let t = put-text p in
+pub reported : {bytes old : List ℕ} {r : Written} {new : List ℕ} {scratch : List ℕ} (out : List ℕ) (n : ℕ) → length scratch ≡ room → Front (Printed bytes) scratch out n
+    → r ≡ writtenOf (take n out) old → new ≡ bufferOf (take n out) old → Reported bytes old r new
+reported out n l p e f =
     let w = p .fits in
     let z = p .place in
-    record {
-      lines = p .lines;
-      printed = p .holds;
-      enough = omega arith;
-      answer = e ∙ ap (λ (x : List ℕ). writtenOf x old) t;
-      buffer = f ∙ ap (λ (x : List ℕ). bufferOf x old) t;
-    }
+    put-as (front-text p) (text (p .holds)) (omega arith) e f
 
 pub start : (s : Sheet) (old : List ℕ) → Printing s old old 1 0
 unfolding linesText
@@ -130,7 +107,7 @@ module _ {s : Sheet} {old out : List ℕ} {L at : ℕ} (p : Printing s old out L
 
   pub finish : (ls : List Line) {r : ℕ} {last : List ℕ} → Run s L ls → at + length (linesText ls) ≤ length old → r ≡ length (linesText ls)
       → last ≡ over (linesText ls) (take (length out - at) (drop at out))
-      → Put (Run s 1) old (take at out ++ (last ++ drop (length out - at) (drop at out))) (at + r)
+      → Front (Run s 1) old (take at out ++ (last ++ drop (length out - at) (drop at out))) (at + r)
   finish ls t h e f = let m = more-text ls h e f in record { lines = p .lines ++ ls; holds = p .joins ls t; place = m .0; buffer = m .1; fits = omega arith }
 
   pub again : (a : PlanAnswer) {r : ℕ} {last : List ℕ} → L ≤ s .cap → PlanAt s L a → (a .answer ≡ 0 → ⊥)

@@ -1,20 +1,18 @@
 // The text of plans: the lines that leastplan prints for an interval, and all that it prints for the bytes of a sheet.
 ghost use mathlib.Core.Path.{_≡_};
-ghost use mathlib.Core.List.{[], _∷_};
 ghost use Prim.Native.Nat.{_≤_};
 ghost use lib.ListN.{length};
 ghost use Rattle.text.specs.Text.{over, bufferOf};
 ghost use Rattle.text.specs.Line.{writtenOf};
 ghost use Rattle.text.specs.Sizes.{threeDigits};
-ghost use Rattle.text.specs.Lines.{linesText};
-ghost use Rattle.text.specs.Answers.{answerLine};
+ghost use Rattle.text.specs.Answers.{refusalText};
 ghost use Rattle.sheet.specs.Sheet.{InRange};
-ghost use Rattle.report.specs.Print.{Run, Printed};
+ghost use Rattle.report.specs.Print.{Run, Printed, room, Reported};
 ghost use Rattle.report.specs.Bounds.{answerMost};
 ghost use Rattle.report.specs.Small.{SmallAnswer};
 ghost use Rattle.report.specs.PlanText.{PlanText, planText};
 ghost use Rattle.report.specs.IntervalText.{IntervalText};
-ghost use Rattle.report.specs.Printing.{room, Put, Reported};
+ghost use Rattle.report.specs.Printing.{Front};
 use plan::PlanAnswer;
 use sheet::Sheet;
 use sizes::MOST_OPERATIONS;
@@ -94,8 +92,8 @@ pub fn interval_text(sheet: Sheet, interval: usize, out: &mut [u8]) -> Written
 // The line `answer=` alone, and how many bytes it has.
 fn put_answer(out: &mut [u8], answer: usize) -> usize
     requires { ⌜ (answer ≤ threeDigits) × (answerMost ≤ length (now out)) ⌝ }
-    ensures { λ r. ⌜ r ≡ length (linesText (answerLine answer ∷ [])) ⌝ }
-    ensures { λ r. ⌜ now (out .exit) ≡ over (linesText (answerLine answer ∷ [])) (now (out .entry)) ⌝ }
+    ensures { λ r. ⌜ r ≡ length (refusalText answer) ⌝ }
+    ensures { λ r. ⌜ now (out .exit) ≡ over (refusalText answer) (now (out .entry)) ⌝ }
 {
     text::put_line(out, text::count_line(text::ANSWER, answer))
 }
@@ -103,7 +101,7 @@ fn put_answer(out: &mut [u8], answer: usize) -> usize
 // The intervals from 1 up, until one has a plan.
 fn run(out: &mut [u8], sheet: Sheet) -> usize
     requires { ⌜ InRange sheet × (room ≤ length (now out)) ⌝ }
-    ensures { λ r. ⌜ Put (Run sheet 1) (now (out .entry)) (now (out .exit)) r ⌝ }
+    ensures { λ r. ⌜ Front (Run sheet 1) (now (out .entry)) (now (out .exit)) r ⌝ }
 {
     let cap = sheet.cap;
     let mut at = 0;
@@ -122,7 +120,7 @@ fn run(out: &mut [u8], sheet: Sheet) -> usize
 // What leastplan prints for the bytes of a sheet.
 fn print(out: &mut [u8], bytes: &[u8]) -> usize
     requires { ⌜ room ≤ length (now out) ⌝ }
-    ensures { λ r. ⌜ Put (Printed (now (bytes .entry))) (now (out .entry)) (now (out .exit)) r ⌝ }
+    ensures { λ r. ⌜ Front (Printed (now (bytes .entry))) (now (out .entry)) (now (out .exit)) r ⌝ }
 {
     let read = reader::read(bytes);
     let answer = read.answer;

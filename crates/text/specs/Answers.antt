@@ -1,13 +1,17 @@
--- The lines that answers are made of.
+-- The lines that answers are made of, and the text of a refusal.
 use Prim.Native.Nat.{ℕ}
 use mathlib.Core.List.{List, [], _∷_, map}
 use lib.IntN.{pos}
 use Rattle.text.specs.Keys as key
-use Rattle.text.specs.Lines.{Line, countLine}
+use Rattle.text.specs.Lines.{Line, countLine, linesText}
 
 -- `answer=` with 0 or the refusal
 abbrev pub answerLine : ℕ → Line
 answerLine n = countLine key.answerKey n
+
+-- the number of a refusal alone
+abbrev pub refusalText : ℕ → List ℕ
+refusalText n = linesText (answerLine n ∷ [])
 
 -- `interval=`
 abbrev pub intervalLine : ℕ → Line

@@ -3,6 +3,7 @@
 use Prim.Native.Nat.{ℕ}
 use mathlib.Core.Path.{_≡_, sym, ap, subst, _∙_}
 use Rattle.text.specs.Lines.{linesText}
+use Rattle.text.specs.PutLaws.{weaken}
 use Rattle.sheet.specs.declared.Sheet.{Sheet}
 use Rattle.sheet.specs.Sheet.{InRange, Arrays}
 use Rattle.reader.specs.declared.ReadAnswer.{ReadAnswer}
@@ -12,7 +13,7 @@ use Rattle.round_trip.specs.RoundTrip.{only-text}
 use Rattle.report.specs.Reading.{read-small}
 use Rattle.commands.specs.Listing.{refusalLines}
 use Rattle.commands.specs.Shows.{lists}
-use Rattle.commands.specs.Answers.{put, weaken}
+use Rattle.commands.specs.Answers.{put}
 use Rattle.commands.specs.Prints.{Serves, Prints, refused, read}
 use native.Mathlib.Omega.{arith}
 use borrow.Author.Needs.{needs}

@@ -1,14 +1,16 @@
 -- `commands::page_of_plan` meets its contract.
 -- From what `read`, `alone`, `put` and `given` ensure.
 use mathlib.Core.Path.{sym, ap, subst, _∙_}
+use Rattle.text.specs.Answers.{refusalText}
+use Rattle.text.specs.PutLaws.{weaken}
 use Rattle.sheet.specs.declared.Sheet.{Sheet}
 use Rattle.sheet.specs.Sheet.{InRange}
 use Rattle.sheet.specs.Questions.{at-no, at-yes}
 use Rattle.reader.specs.declared.ReadAnswer.{ReadAnswer}
 use Rattle.report.specs.Reading.{read-small, read-in-range}
 use Rattle.commands.specs.Shows.{lists}
-use Rattle.commands.specs.Answers.{put, weaken}
-use Rattle.commands.specs.Prints.{refusalText, ServesPage}
+use Rattle.commands.specs.Answers.{put}
+use Rattle.commands.specs.Prints.{ServesPage}
 use native.Mathlib.Omega.{arith}
 use borrow.Author.Needs.{needs}
 use Rattle.commands.proofs.page_of_plan.Statement.{statement}

@@ -3,7 +3,7 @@
 use lib.Seq.{length-take-le}
 use mathlib.Core.Path.{sym}
 use native.Mathlib.Omega.{arith}
-use Rattle.report.specs.Printing.{reported-within}
+use Rattle.text.specs.PutLaws.{put-within}
 use borrow.Author.Needs.{needs}
 use Rattle.printing.proofs.print_report.Statement.{statement}
 use Rattle.printing.proofs.print_report.Tie as tie
@@ -15,12 +15,12 @@ report-requires : tie.Need-report-requires
 report-requires c κs = search needs
 
 array-share-prefix-out : tie.Need-array-share-prefix-out
-array-share-prefix-out c = let w = reported-within (c .before .report .ensures) in omega arith
+array-share-prefix-out c = let w = put-within (c .before .report .ensures) in omega arith
 
 slice-aggregate-write-all : tie.Need-slice-aggregate-write-all
 slice-aggregate-write-all c =
     let p = c .before .before .report in
-    let w = reported-within (p .ensures) in
+    let w = put-within (p .ensures) in
     sym (length-take-le _ _ (omega (arith, p .kept)))
 
 write-all-requires : tie.Need-write-all-requires

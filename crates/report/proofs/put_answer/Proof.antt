@@ -2,14 +2,13 @@
 -- From what `count_line` and `put_line` ensure, and the bound of the line.
 use Prim.Native.Nat.{ℕ}
 use mathlib.Core.Path.{_≡_, sym, ap, _∙_}
-use mathlib.Core.List.{List, [], _∷_}
+use mathlib.Core.List.{List}
 use Rattle.text.specs.Text.{bufferOf}
 use Rattle.text.specs.Line.{keyOf, textOf, countOf}
 use Rattle.text.specs.Keys.{answerKey}
-use Rattle.text.specs.Lines.{linesText}
 use Rattle.text.specs.Joined.{one-number}
 use Rattle.text.specs.Writing.{fitting}
-use Rattle.text.specs.Answers.{answerLine}
+use Rattle.text.specs.Answers.{refusalText}
 use Rattle.report.specs.Bounds.{answer-most, answer-text}
 use native.Mathlib.Omega.{arith}
 use borrow.Author.Needs.{needs}
@@ -32,10 +31,10 @@ returns c =
     let n = s .args .answer in
     let old = s .args .out .now in
     let p = c .before .before .put-line .ensures in
-    let t : textOf (c .before .before .before .count-line .result) ≡ linesText (answerLine n ∷ []) = one-number answerKey n (omega (arith, s .pre .0)) (c .before .before .before .count-line .ensures) ∙ sym (answer-text n) in
+    let t : textOf (c .before .before .before .count-line .result) ≡ refusalText n = one-number answerKey n (omega (arith, s .pre .0)) (c .before .before .before .count-line .ensures) ∙ sym (answer-text n) in
     let b = answer-most n (s .pre .0) in
     let h = s .pre .1 in
-    let g = fitting (linesText (answerLine n ∷ [])) old (omega arith) in (
+    let g = fitting (refusalText n) old (omega arith) in (
       p .0 ∙ ap (λ (x : List ℕ). countOf x old) t ∙ g .0,
       p .1 ∙ ap (λ (x : List ℕ). bufferOf x old) t ∙ g .1,
     )

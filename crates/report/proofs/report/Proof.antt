@@ -2,7 +2,7 @@
 -- From what `print` and `put_text` ensure.
 use mathlib.Core.Path.{refl, sym}
 use lib.Seq.{length-take-le}
-use Rattle.report.specs.Printing.{reported, put-size}
+use Rattle.report.specs.Printing.{reported, front-size}
 use native.Mathlib.Omega.{arith}
 use borrow.Author.Needs.{needs}
 use Rattle.report.proofs.report.Statement.{statement}
@@ -15,12 +15,12 @@ print-requires : tie.Need-print-requires
 print-requires c κs = omega arith
 
 array-share-prefix-text : tie.Need-array-share-prefix-text
-array-share-prefix-text c = let p = c .before .before .print .ensures in rw (put-size p) (p .fits)
+array-share-prefix-text c = let p = c .before .before .print .ensures in rw (front-size p) (p .fits)
 
 slice-aggregate-put-text : tie.Need-slice-aggregate-put-text
 slice-aggregate-put-text c =
     let p = c .before .before .before .print in
-    sym (length-take-le (p .result) (p .last .0) (rw (put-size (p .ensures)) (p .ensures .fits)))
+    sym (length-take-le (p .result) (p .last .0) (rw (front-size (p .ensures)) (p .ensures .fits)))
 
 put-text-requires : tie.Need-put-text-requires
 put-text-requires c κs = search needs

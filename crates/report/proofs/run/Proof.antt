@@ -12,7 +12,7 @@ use Rattle.sheet.specs.Facts.{cap-most}
 use Rattle.report.specs.Print.{intervalLines, none, stops}
 use Rattle.report.specs.Small.{SmallAnswer, small}
 use Rattle.report.specs.Bounds.{answerMost, planMost, refusalMost, lines-most, refusal-most, answer-most, answer-short}
-use Rattle.report.specs.Printing.{Printing, start, same-size, more-size, finish, again, put-size}
+use Rattle.report.specs.Printing.{Printing, start, same-size, more-size, finish, again, front-size}
 use native.Mathlib.Omega.{arith}
 use borrow.Author.Needs.{needs}
 use Rattle.report.proofs.run.Statement.{statement}
@@ -106,7 +106,7 @@ same-length c =
     let q = c .before .before .before .before .before .before .plan-at in
     let z = same-size p in
     let f = c .before .before .before .before .fill .ensures in
-    put-size (finish p (intervalLines (c .before .before .before .before .before .before .before .before .before .before .args .sheet) (c .before .before .before .before .before .before .before .before .loop .interval) (q .result)) (stops (c .before .before .before .before .before .before .before .loop-test .taken) (q .ensures) (c .if1 .taken)) (omega arith) (f .0) (f .1))
+    front-size (finish p (intervalLines (c .before .before .before .before .before .before .before .before .before .before .args .sheet) (c .before .before .before .before .before .before .before .before .loop .interval) (q .result)) (stops (c .before .before .before .before .before .before .before .loop-test .taken) (q .ensures) (c .if1 .taken)) (omega arith) (f .0) (f .1))
 
 returns : tie.Need-returns Inv-loop μ-loop
 returns c =

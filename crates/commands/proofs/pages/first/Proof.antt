@@ -4,11 +4,12 @@ use mathlib.Core.Path.{_≡_, sym, subst}
 use lib.ListN.{length}
 use lib.Seq.{length-take-le}
 use Rattle.sizes.specs.Sizes.{mostOperations}
+use Rattle.text.specs.PutLaws.{weaken}
 use Rattle.sheet.specs.Facts.{ops-most}
 use Rattle.words.specs.declared.Command.the-variants.{Page}
 use Rattle.commands.specs.Shows.{lists}
 use Rattle.commands.specs.Printable.{plan-sized}
-use Rattle.commands.specs.Answers.{put, weaken, page-denied}
+use Rattle.commands.specs.Answers.{put, page-denied}
 use Rattle.commands.specs.Pages.{first-served}
 use Rattle.commands.specs.Prints.{Serves}
 use Rattle.commands.specs.Prints as prints
