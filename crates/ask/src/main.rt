@@ -102,6 +102,7 @@ fn main() {
     match words::request(&name[..n], arguments()) {
         Asked::Do(command) => print(command),
         Asked::PageOfPlan(interval) => print_page_of_plan(interval),
+        Asked::Table(_) => told::unknown(),
         Asked::Unknown => told::unknown(),
         Asked::Strange => told::strange(),
         Asked::Missing(argument) => told::fault(argument, b" is missing"),

@@ -7,7 +7,7 @@ use lib.Dec.{eqb}
 use Rattle.words.specs.declared.Given.{Given}
 use Rattle.words.specs.declared.Command.the-variants.{Bounds, Starts, Separations, Plan, Page, Order, Check, Write}
 use Rattle.words.specs.declared.Asked.{Asked}
-use Rattle.words.specs.declared.Asked.the-variants.{Do, PageOfPlan, Unknown, Strange, Missing, Twice, Foreign}
+use Rattle.words.specs.declared.Asked.the-variants.{Do, PageOfPlan, Table, Unknown, Strange, Missing, Twice, Foreign}
 
 -- ---- the table
 
@@ -90,6 +90,15 @@ pageOfPlanRow = record {
   asks = λ L P. PageOfPlan L;
 }
 
+-- `table interval=L`
+abbrev pub tableRow : Row
+tableRow = record {
+  name = 116 ∷ 97 ∷ 98 ∷ 108 ∷ 101 ∷ [];
+  interval = true;
+  pair = false;
+  asks = λ L P. Table L;
+}
+
 -- `order interval=L pair=P`
 abbrev pub orderRow : Row
 orderRow = record {
@@ -101,7 +110,7 @@ orderRow = record {
 
 -- the commands at an interval
 abbrev pub intervalRows : List Row
-intervalRows = startsRow ∷ separationsRow ∷ planRow ∷ pageRow ∷ pageOfPlanRow ∷ orderRow ∷ []
+intervalRows = startsRow ∷ separationsRow ∷ planRow ∷ pageRow ∷ pageOfPlanRow ∷ tableRow ∷ orderRow ∷ []
 
 -- the commands
 abbrev pub rows : List Row

@@ -1,5 +1,5 @@
 // The words of a command, `COMMAND [interval=L] [pair=P]`: what each argument says, and what all of them ask for. The
-// program `ask` takes the words from the system, and `commands` answers what they ask for.
+// program `ask` takes the words from the system and has what they ask for answered.
 ghost use mathlib.Core.Path.{_≡_};
 ghost use Rattle.words.specs.Arguments.{numberAfter, onceMore, withWord};
 ghost use Rattle.words.specs.Requests.{intervalRows, counted, taking, requestIn, requestOf};
@@ -22,12 +22,13 @@ pub const INTERVAL: usize = 0;
 
 pub const PAIR: usize = 1;
 
-// What the words ask for: a command to be done, or the page at an interval of a plan that comes besides; or what is
-// wrong with them: no such command, a word that is no argument, an argument that is missing, given more than once, or
-// not taken by this command.
+// What the words ask for: a command to be done on the sheet alone, or, with lines that come besides, the page of a plan
+// or a script on a placing table, both at an interval; or what is wrong with them: no such command, a word that is no
+// argument, an argument that is missing, given more than once, or not taken by this command.
 pub enum Asked {
     Do(Command),
     PageOfPlan(usize),
+    Table(usize),
     Unknown,
     Strange,
     Missing(usize),
@@ -158,6 +159,9 @@ fn at_interval(name: &[u8], given: Given) -> Asked
     }
     if check::same(name, b"page_of_plan") {
         return taking(given, true, false, Asked::PageOfPlan(interval));
+    }
+    if check::same(name, b"table") {
+        return taking(given, true, false, Asked::Table(interval));
     }
     if check::same(name, b"order") {
         let order = Command::Order(interval, given.pair);

@@ -55,6 +55,13 @@ past-6 : (c : tie.Else6) → Past 6 (start-6 c)
 unfolding Past
 past-6 c = past-5 (c .before .before .before) ∙ passed _ _ _ _ (c .before .same6 .ensures) (c .if6 .left)
 
+abbrev start-7 : tie.Else7 → tie.Start
+start-7 c = start-6 (c .before .before .before)
+
+past-7 : (c : tie.Else7) → Past 7 (start-7 c)
+unfolding Past
+past-7 c = past-6 (c .before .before .before) ∙ passed _ _ _ _ (c .before .same7 .ensures) (c .if7 .left)
+
 slice-aggregate-same : tie.Need-slice-aggregate-same
 slice-aggregate-same c = search needs
 
@@ -132,9 +139,22 @@ returns-6 : tie.Need-returns-6
 unfolding Past
 returns-6 c = c .taking6 .ensures ∙ sym (past-5 (c .before .before .before .before) ∙ found _ _ _ _ (c .before .before .same6 .ensures) (c .before .if6 .taken))
 
+slice-aggregate-same-7 : tie.Need-slice-aggregate-same-7
+slice-aggregate-same-7 c = search needs
+
+same-requires-7 : tie.Need-same-requires-7
+same-requires-7 c κs = search needs
+
+taking-requires-7 : tie.Need-taking-requires-7
+taking-requires-7 c κs = search needs
+
 returns-7 : tie.Need-returns-7
+unfolding Past
+returns-7 c = c .taking7 .ensures ∙ sym (past-6 (c .before .before .before .before) ∙ found _ _ _ _ (c .before .before .same7 .ensures) (c .before .if7 .taken))
+
+returns-8 : tie.Need-returns-8
 unfolding Past requestIn
-returns-7 c = sym (past-6 c)
+returns-8 c = sym (past-7 c)
 
 pub at-interval-spec : {M : Type 1} → statement M
 at-interval-spec =
@@ -164,4 +184,8 @@ at-interval-spec =
     same-requires-6
     taking-requires-6
     returns-6
-    returns-7)
+    slice-aggregate-same-7
+    same-requires-7
+    taking-requires-7
+    returns-7
+    returns-8)
