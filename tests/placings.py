@@ -29,17 +29,23 @@ def answers_of(sheet, script):
             table = with_entry(table, *numbers)
         elif key == b"consistent":
             yield b"consistent=%d\n" % ref.consistent(sheet, numbers[0], table)
-        elif key == b"place":
-            answer, unit, table = placed(sheet, table, *numbers)
-            yield b"place=%d,%d\n" % (answer, unit)
+        elif key == b"offer":
+            answer, offer = offered(sheet, table, *numbers)
+            yield b"offer=%d,%d,%d,%d\n" % (answer, *offer)
+        elif key in PUTS_IN:
+            answer, unit, table = PUTS_IN[key](sheet, table, *numbers)
+            yield b"%s=%d,%d\n" % (key, answer, unit)
         else:
             for i, entry in enumerate(table):
-                if entry != (False, 0, 0):
+                if entry != NOTHING:
                     yield b"entry=%d,%d,%d,%d\n" % (i, *entry)
 
 
+NOTHING = (False, 0, 0)  # the entry of an operation that is not placed
+
+
 def with_entry(table, i, p, start, unit):
-    return table[:i] + [(p != 0, start, unit)] + table[i + 1 :]
+    return ref.with_entry(table, i, (p != 0, start, unit))
 
 
 def sheet_answer(sheet):
@@ -54,6 +60,20 @@ def new_answer(sheet, interval):
 def placed(sheet, table, interval, op, start):
     refused = sheet_answer(sheet)
     return (refused, 0, table) if refused else ref.place(sheet, interval, table, op, start)
+
+
+def offered(sheet, table, interval, op, start):
+    refused = sheet_answer(sheet)
+    return (refused, ref.NO_OFFER) if refused else ref.make_offer(sheet, interval, table, op, start)
+
+
+def booked(sheet, table, interval, *offer):
+    refused = sheet_answer(sheet)
+    return (refused, 0, table) if refused else ref.book(sheet, interval, table, offer)
+
+
+# The lines that put an operation in, and what they are answered.
+PUTS_IN = {b"place": placed, b"book": booked}
 
 
 # ---- scripts
@@ -175,6 +195,191 @@ def upside_down():
     """A window that ends before it begins: 16 as numbers, whatever else is wrong after that line. From a text no sheet
     is read, which is 3."""
     yield with_windows(SIX, [(3, 2)] + SINGLE_CLOCKS[1:]), [(b"entry", 6, 1, 0, 0)] + steps(0) + steps(2)
+
+
+# ---- offers and bookings
+
+
+def some_table(rng, sheet, interval):
+    """Some operations, each at any start on any instance that was free there; in any order."""
+    table, n = ref.new_table(), len(sheet.ops)
+    for op in rng.sample(range(n), rng.randint(0, n)):
+        offer = op, rng.randrange(sheet.horizon), rng.choice(ref.instance_range(sheet, op))
+        table = ref.book(sheet, interval, table, offer)[2]
+    return table
+
+
+def faulty_tables(rng, sheet, table):
+    """The table with each fault that question 10 names, as far as the sheet has room for it."""
+    n, i = len(sheet.ops), rng.randrange(len(sheet.ops))
+    faults = [(i, (True, sheet.horizon, 0)), (i, (True, 0, ref.instance_range(sheet, i).stop))]
+    faults += [(i, (False, 1, 0)), (i, (False, 0, 1))]
+    if n < ref.MOST_OPERATIONS:
+        faults += [(n, (True, 0, 0)), (ref.MOST_OPERATIONS - 1, (False, 0, 1))]
+    yield from (ref.with_entry(table, *fault) for fault in faults)
+    for j, k in itertools.combinations(range(n), 2):
+        if ref.rivals(sheet, j, k):
+            yield ref.with_entry(ref.with_entry(table, j, (True, 0, 0)), k, (True, 0, 0))
+            return
+
+
+def any_table(rng, sheet, interval):
+    """One of four has a fault."""
+    table = some_table(rng, sheet, interval)
+    return rng.choice(list(faulty_tables(rng, sheet, table))) if rng.random() < 0.25 else table
+
+
+def any_target(rng, sheet):
+    """An operation and a start, one of them out of range now and then."""
+    n, horizon = len(sheet.ops), sheet.horizon
+    return rng.choice([n, HUGE, *list(range(n)) * 3]), rng.choice([horizon, HUGE, *list(range(horizon)) * 3])
+
+
+def near_instances(sheet, op):
+    """Instances at both sides of each limit: of the operation's type, of all types, of a line."""
+    last = ref.instance_range(sheet, op).stop if op < len(sheet.ops) else 1
+    return sorted({0, last - 1, last, ref.MOST_INSTANCES, HUGE})
+
+
+def given(table):
+    """The lines that hand a table in."""
+    return [(b"new", 1)] + [(b"entry", i, *entry) for i, entry in enumerate(table) if entry != NOTHING]
+
+
+def tried(table, line):
+    """A booking, after which the entry is what it was."""
+    op = line[2]
+    return [line] + ([(b"entry", op, *table[op])] if op < ref.MOST_OPERATIONS else [])
+
+
+def offer_and_booking(rng, sheet, interval, table):
+    """An offer, which leaves the table as it is, and the placement; then what was offered is booked on the same table,
+    which comes out the same. Where nothing was offered, another booking is refused too."""
+    target = any_target(rng, sheet)
+    answer, offer = ref.make_offer(sheet, interval, table, *target)
+    booking = (*target, rng.choice(near_instances(sheet, target[0]))) if answer else offer
+    script = given(table) + [(b"offer", interval, *target), (b"table", 0), (b"place", interval, *target), (b"table", 0)]
+    return script + given(table) + [(b"book", interval, *booking), (b"table", 0)]
+
+
+def offers_from_elsewhere(rng, sheet, interval, table, other):
+    """Offers that were made on another table, at another interval, or for another sheet."""
+    places = [(sheet, interval, some_table(rng, sheet, interval)), (sheet, rng.randint(1, sheet.cap), table)]
+    apart = rng.randint(1, other.cap)
+    places.append((other, apart, some_table(rng, other, apart)))
+    for there in places:
+        _, offer = ref.make_offer(*there, *any_target(rng, there[0]))
+        yield from tried(table, (b"book", interval, *offer))
+
+
+def every_booking(rng, sheet, interval, table):
+    """Each instance beside a limit, of some operations at some starts."""
+    for op, start in [any_target(rng, sheet) for _ in range(4)]:
+        for unit in near_instances(sheet, op):
+            yield from tried(table, (b"book", interval, op, start, unit))
+
+
+def random_offers(seed, *makers):
+    """On sheets that the makers draw by turns: a table that has a fault or none, and all of the above on it."""
+    rng = sheets.seeded(seed)
+    for k in range(60):
+        sheet, other = makers[k % len(makers)](rng), sheets.small_sheet(rng)
+        interval = rng.randint(1, sheet.cap)
+        table = any_table(rng, sheet, interval)
+        script = [line for _ in range(3) for line in offer_and_booking(rng, sheet, interval, table)]
+        script += given(table) + list(offers_from_elsewhere(rng, sheet, interval, table, other))
+        yield sheet, script + list(every_booking(rng, sheet, interval, table)) + [(b"table", 0)]
+
+
+def offers_on_faults(seed):
+    """Every fault of a table, with targets in range and out of it."""
+    rng = sheets.seeded(seed)
+    for sheet in [SIX] + [sheets.narrow_sheet(rng) for _ in range(5)]:
+        interval = rng.randint(1, sheet.cap)
+        for table in faulty_tables(rng, sheet, some_table(rng, sheet, interval)):
+            yield sheet, offer_and_booking(rng, sheet, interval, table)
+
+
+def single_bookings():
+    """Each number of an offer at both sides of its limit, of each kind of operation, with nothing placed, a rival on
+    each instance, and operations that are no rivals on the same."""
+    tables = [{}, {1: (True, 1, 0)}, {3: (True, 3, 1)}, {1: (True, 3, 1), 3: (True, 1, 0)}]
+    tables += [{4: (True, 1, 0), 5: (True, 1, 0)}]
+    for entries in tables:
+        table = [entries.get(i, NOTHING) for i in range(ref.MOST_OPERATIONS)]
+        script = given(table)
+        for op, start, unit in itertools.product((0, 2, 5), (0, 1, 3, 4), (0, 1, 2, ref.MOST_INSTANCES, HUGE)):
+            script += tried(table, (b"book", 2, op, start, unit))
+        offers = [(b"offer", 2, op, start) for op, start in itertools.product((0, 1, 2, 3, 5, 6), (0, 3, 4))]
+        yield SIX, script + offers + [(b"table", 0)]
+
+
+def first_question_of_bookings():
+    """A table that is inconsistent or full, with other faults: 3 and 4 come before 10, 10 before 11, 11 before 12, and
+    12 before 13 and 17. What can be booked stays, and is placed already for the next."""
+    faulty, full = [(6, 1, 0, 0)], [(0, 1, 0, 0), (1, 1, 0, 1), (5, 1, 3, 0)]
+    targets = [(0, 6, 4), (4, 2, 0), (2, 6, 0), (2, 0, 4), (2, HUGE, HUGE), (2, 0, 0), (2, 3, 0), (2, 3, 2), (2, 3, 1)]
+    for entries in (faulty + full, full, faulty, []):
+        script = [(b"new", 2)] + [(b"entry", *e) for e in entries]
+        for target in targets:
+            script += [(b"offer", *target), (b"table", 0)]
+            for unit in (HUGE, 2, 1, 0):
+                script += [(b"book", *target, unit), (b"table", 0)]
+        yield SIX, script
+    yield None, [(b"entry", 1, 0, 0, 1), (b"offer", 1, 0, 0), (b"book", 1, 0, 0, 0), (b"offer", 0, 0, 0), (b"table", 0)]
+
+
+def whole_bookings():
+    """24 operations at the ends of every range: instances from the highest down, until none is left in the slot."""
+    wide = plain_sheet(128, 64, [(8, 0)], [0] * 24, [])
+    script = [(b"new", 64)]
+    for op in range(24):
+        start, unit = (127 if op % 2 else 63), 7 - op // 2
+        script += [(b"offer", 64, op, start), (b"book", 64, op, start, unit if unit >= 0 else 0)]
+    yield wide, script + [(b"table", 0)]
+    script = [(b"book", 3, op, 125 + op % 3, 7 - op // 3) for op in range(24)]
+    yield wide, script + [(b"table", 0), (b"offer", 3, 23, 0), (b"book", 3, 23, 0, 8), (b"consistent", 3)]
+    unlimited = plain_sheet(1, 1, [(0, 1)], [0] * 24, [])
+    script = [(b"book", 1, op, 0, unit) for op in range(25) for unit in (1, 0)]
+    yield unlimited, script + [(b"table", 0), (b"offer", 1, 23, 0)]
+
+
+def random_steps(rng, sheet, interval, count):
+    """Offers, bookings and placements one after the other on a table that begins new, as (key, numbers): what was
+    offered last is booked, on that instance or on another, or something else is asked."""
+    table, offer, steps = ref.new_table(), ref.NO_OFFER, []
+    for _ in range(count):
+        op, start = any_target(rng, sheet)
+        others = [(*place, rng.choice(near_instances(sheet, place[0]))) for place in (offer[:2], (op, start))]
+        asked = [("offer", op, start), ("offer", op, start), ("book", *offer), ("place", op, start)]
+        steps.append(rng.choice(asked + [("book", *other) for other in others]))
+        if steps[-1][0] == "offer":
+            offer = ref.make_offer(sheet, interval, table, op, start)[1]
+        table = ref.step(sheet, interval, table, *steps[-1])[2]
+    return steps
+
+
+def steps_one_by_one(seed, *makers):
+    """The same with the table after each step."""
+    rng = sheets.seeded(seed)
+    for k in range(30):
+        sheet = makers[k % len(makers)](rng)
+        interval, script = rng.randint(1, sheet.cap), []
+        for key, *numbers in random_steps(rng, sheet, interval, 3 * len(sheet.ops)):
+            script += [(key.encode(), interval, *numbers), (b"table", 0)]
+        yield sheet, script
+
+
+def offers_and_bookings():
+    for part in (single_bookings(), first_question_of_bookings(), whole_bookings(), offers_on_faults(16)):
+        yield from part
+    yield from random_offers(17, sheets.small_sheet, sheets.narrow_sheet, sheets.wide_sheet)
+    yield from steps_one_by_one(18, sheets.small_sheet, sheets.windowed_sheet)
+    reversed_window = with_windows(SIX, [(3, 2)] + SINGLE_CLOCKS[1:])
+    yield reversed_window, [(b"offer", 2, 0, 0), (b"book", 2, 0, 0, 0), (b"offer", 0, 9, 9), (b"book", 0, 9, 9, 9)]
+
+
+# ---- all of them
 
 
 def scripts():

@@ -39,24 +39,24 @@ def program_words(name):
     return [emulator] + words if os.path.exists(emulator) else words
 
 
-def outcome(name, data, *words, plan=None):
-    """(standard output, standard error) of the program for this standard input and these words, with a plan's lines on
-    descriptor 3, which is closed without them; a crash raises."""
+def outcome(name, data, *words, second=None):
+    """(standard output, standard error) of the program for this standard input and these words, with the text of a
+    second file on descriptor 3, which is closed without one; a crash raises."""
     command = [*program_words(name), *words]
-    with tempfile.NamedTemporaryFile() as lines:
-        if plan is not None:
-            lines.write(plan)
-            lines.flush()
-            command = ["sh", "-c", 'exec "$@" 3<"$0"', lines.name, *command]
+    with tempfile.NamedTemporaryFile() as text:
+        if second is not None:
+            text.write(second)
+            text.flush()
+            command = ["sh", "-c", 'exec "$@" 3<"$0"', text.name, *command]
         done = subprocess.run(command, input=data, stdout=subprocess.PIPE, stderr=subprocess.PIPE, timeout=600)
     if done.returncode:
         raise RuntimeError("%s ended with status %d: %r" % (name, done.returncode, done.stderr))
     return done.stdout, done.stderr
 
 
-def run(name, data, *words, plan=None):
+def run(name, data, *words, second=None):
     """The standard output alone."""
-    return outcome(name, data, *words, plan=plan)[0]
+    return outcome(name, data, *words, second=second)[0]
 
 
 def last_change():

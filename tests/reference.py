@@ -1,5 +1,5 @@
 #!/usr/bin/env python3
-"""Loop sheets and interval plans as document 01 and slips 1 to 3 of 02 word them, by plain enumeration.
+"""Loop sheets and interval plans as document 01 and slips 1 to 5 of 02 word them, by plain enumeration.
 
 Independent of the Rattle crates: nothing here is taken from their code, their algorithms or their
 outputs. Sheets are read with a regular expression for each kind of line; plans, instances and closed
@@ -12,7 +12,7 @@ made a bad closed one is not continued. Sums over walks come from a table by len
 but plans can be had of large sheets too; plans are slow, and for small sheets only.
 
 As a program:  reference.py [COMMAND [name=number ..]] < SHEET   prints what leastplan prints; with 3< PLAN the
-command page_of_plan too.
+command page_of_plan too, and with 3< SCRIPT the command table.
 """
 
 import re
@@ -535,30 +535,62 @@ def consistent(sheet, interval, table):
     )
 
 
-def place(sheet, interval, table, op, start):
-    """(answer, instance, table); the table is the same with a refusal."""
+def before_placing(sheet, interval, table, op, start):
+    """Questions 4 and 10 to 12, which a placement, an offer and a booking all meet first."""
     if not 1 <= interval <= sheet.cap:
-        return 4, 0, table
+        return 4
     if not consistent(sheet, interval, table):
-        return 10, 0, table
+        return 10
     if not (0 <= op < len(sheet.ops) and 0 <= start < sheet.horizon):
-        return 11, 0, table
-    if table[op][0]:
-        return 12, 0, table
+        return 11
+    return 12 if table[op][0] else 0
+
+
+def free_instances(sheet, interval, table, op, start):
+    """Those that the operation could have, in their order, less those of the rivals placed in that slot."""
     taken = [
         table[i][2]
         for i in range(len(sheet.ops))
         if table[i][0] and rivals(sheet, i, op) and table[i][1] % interval == start % interval
     ]
-    for unit in instance_range(sheet, op):
-        if unit not in taken:
-            after = list(table)
-            after[op] = (True, start, unit)
-            return 0, unit, after
-    return 13, 0, table
+    return [unit for unit in instance_range(sheet, op) if unit not in taken]
 
 
-# ---- the page: the reservation table of a plan that is handed in
+def with_entry(table, i, entry):
+    return table[:i] + [entry] + table[i + 1 :]
+
+
+def place(sheet, interval, table, op, start):
+    """(answer, instance, table); the table is the same with a refusal."""
+    answer = before_placing(sheet, interval, table, op, start)
+    if answer:
+        return answer, 0, table
+    free = free_instances(sheet, interval, table, op, start)
+    return (0, free[0], with_entry(table, op, (True, start, free[0]))) if free else (13, 0, table)
+
+
+NO_OFFER = (0, 0, 0)
+
+
+def make_offer(sheet, interval, table, op, start):
+    """(answer, offer): an offer names operation, start and instance."""
+    answer = before_placing(sheet, interval, table, op, start)
+    if answer:
+        return answer, NO_OFFER
+    free = free_instances(sheet, interval, table, op, start)
+    return (0, (op, start, free[0])) if free else (13, NO_OFFER)
+
+
+def book(sheet, interval, table, offer):
+    """(answer, instance, table), as of a placement: 17 where the offered instance is none of the free ones."""
+    op, start, unit = offer
+    answer = before_placing(sheet, interval, table, op, start)
+    if not answer and unit not in free_instances(sheet, interval, table, op, start):
+        answer = 17
+    return (answer, 0, table) if answer else (0, unit, with_entry(table, op, (True, start, unit)))
+
+
+# ---- the page: the reservation table of a plan that is handed in, or of what is placed
 
 MOST_INSTANCES = RANGES["A"][1]
 PAGE_LINE = 4 + 5 * MOST_INSTANCES + 1  # bytes, with the line feed
@@ -574,9 +606,10 @@ def page_length(sheet, interval):
     return len(limited_types(sheet)) * (1 + interval) * PAGE_LINE
 
 
-def reservation_rows(sheet, interval, starts, units):
+def reservation_rows(sheet, interval, table):
     """For each limited type its heading and a row for each slot: what each of its instances does there."""
-    held = {(kind(sheet, i), starts[i] % interval, units[i]): i for i in range(len(sheet.ops))}
+    placed = [(i, start, unit) for i, (there, start, unit) in enumerate(table) if there]
+    held = {(kind(sheet, i), start % interval, unit): i for i, start, unit in placed}
     for r in limited_types(sheet):
         yield "type%5d" % r + " " * 35
         instances = sheet.types[r][0]
@@ -605,7 +638,7 @@ def page_answer(sheet, interval, starts, units, room):
 def page(sheet, interval, starts, units, room):
     """(answer, text) in a buffer of this room: the text only with 0."""
     answer = page_answer(sheet, interval, starts, units, room)
-    return answer, b"" if answer else lines_of(reservation_rows(sheet, interval, starts, units))
+    return answer, b"" if answer else lines_of(reservation_rows(sheet, interval, full_table(starts, units)))
 
 
 PLAN_LINES = b"answer=0\ninterval=%s\n((?:at=%s,%s\n){0,%d})" % (PLAIN, PLAIN, PLAIN, MOST_OPERATIONS)
@@ -618,6 +651,47 @@ def plan_of_lines(text):
         return None
     places = [(int(t), int(u)) for t, u in re.findall(rb"at=(.*),(.*)\n", found[2])]
     return int(found[1]), [t for t, _ in places], [u for _, u in places]
+
+
+# ---- a script: lines that each ask for an offer, a booking or a placement
+
+MOST_STEPS = 1024
+STEPS = [
+    rb"(offer)=%s,%s\n" % (PLAIN, PLAIN),
+    rb"(book)=%s,%s,%s\n" % (PLAIN, PLAIN, PLAIN),
+    rb"(place)=%s,%s\n" % (PLAIN, PLAIN),
+]
+
+
+def step_of(line):
+    """The key and the numbers of one line, None where it is malformed."""
+    found = next(filter(None, (re.fullmatch(step, line) for step in STEPS)), None)
+    return found and (found[1].decode(), *map(int, found.groups()[1:]))
+
+
+def steps_of(text):
+    """One for each line, the last one too if it has no line feed; None for one that is malformed or too many."""
+    lines = re.findall(rb"[^\n]*\n|[^\n]+", text)
+    return [step_of(line) if k < MOST_STEPS else None for k, line in enumerate(lines)]
+
+
+def script_of_lines(text):
+    """The steps of a script; None where a line is none."""
+    steps = steps_of(text)
+    return None if None in steps else steps
+
+
+def script_line_at_fault(text):
+    """The number, from 1, of the first line that makes the text no script."""
+    return steps_of(text).index(None) + 1
+
+
+def step(sheet, interval, table, key, *numbers):
+    """(answer, instance, table) of one line."""
+    if key == "offer":
+        answer, (_, _, unit) = make_offer(sheet, interval, table, *numbers)
+        return answer, unit, table
+    return book(sheet, interval, table, numbers) if key == "book" else place(sheet, interval, table, *numbers)
 
 
 # ---- commands: what `leastplan COMMAND` prints for an accepted sheet; plan_of(sheet, interval) gives the plan
@@ -660,7 +734,19 @@ def page_rows(sheet, plan_of, interval):
     answer, starts, units, loop = plan_of(sheet, interval)
     answer = answer or page_answer(sheet, interval, starts, units, page_length(sheet, interval))
     refused = ["answer=%d" % answer] + loop_rows(loop)
-    return refused if answer else list(reservation_rows(sheet, interval, starts, units))
+    return refused if answer else list(reservation_rows(sheet, interval, full_table(starts, units)))
+
+
+def table_rows(sheet, script, interval):
+    """What each step is answered, then what the table holds in the end, as numbers and as a page."""
+    if not 1 <= interval <= sheet.cap:
+        return ["answer=4"]
+    table, rows = new_table(), []
+    for one in script:
+        answer, unit, table = step(sheet, interval, table, *one)
+        rows += ["answer=%d" % answer] + ([] if answer else ["instance=%d" % unit])
+    rows += list_rows("entry", table[: len(sheet.ops)])
+    return rows + list(reservation_rows(sheet, interval, table))
 
 
 # The arguments that a command takes, each once, in any order; and its lines.
@@ -671,6 +757,7 @@ COMMANDS = {
     "plan": ({"interval"}, plan_rows),
     "order": ({"interval", "pair"}, order_rows),
     "page": ({"interval"}, page_rows),
+    "table": ({"interval"}, table_rows),
     "check": (set(), lambda sheet, _: ["answer=0"]),
     "write": (set(), lambda sheet, _: sheet_rows(sheet)),
 }
@@ -691,34 +778,39 @@ def arguments(words):
 
 
 def plan_given(text, interval):
-    """What plan_at gives, from a plan's lines; None where they are none or of another interval."""
+    """In place of plan_at, the plan of a plan's lines; None where they are none or of another interval."""
     plan = plan_of_lines(text)
-    return None if plan is None or plan[0] != interval else (0, *plan[1:], [])
+    return None if plan is None or plan[0] != interval else lambda *_: (0, *plan[1:], [])
 
 
-def is_asked(words, plan):
-    """The words ask for something and, where they ask for the page of a plan, its lines are one at the interval."""
+# The commands that read a second file, and what each has from its text; None where the text is not as it should be.
+SECOND = {PAGE_OF_PLAN: plan_given, "table": lambda text, interval: script_of_lines(text)}
+
+
+def is_asked(words, second):
+    """The words ask for something and, where they ask for a second file, its text is as it should be."""
     numbers = arguments(words)
-    return numbers is not None and (words[0] != PAGE_OF_PLAN or plan_given(plan, numbers["interval"]) is not None)
+    return numbers is not None and (words[0] not in SECOND or SECOND[words[0]](second, **numbers) is not None)
 
 
-def ask(words, data, plan_of=plan_at, plan=b""):
-    """The whole output of a command for the bytes of its standard input, and of a plan's lines for the page of a plan;
-    nothing where the words or the lines are wrong."""
-    if not is_asked(words, plan):
+def ask(words, data, plan_of=plan_at, second=b""):
+    """The whole output of a command for the bytes of its standard input and of its second file, if it reads one;
+    nothing where the words or the second file are wrong."""
+    if not is_asked(words, second):
         return b""
     answer, sheet = read_sheet(data)
     if answer:
         line = ["line=%d" % line_at_fault(data)] if words[0] == "check" else []
         return lines_of(["answer=%d" % answer] + line)
-    given = (lambda _, interval: plan_given(plan, interval)) if words[0] == PAGE_OF_PLAN else plan_of
-    return lines_of(ALL_COMMANDS[words[0]][1](sheet, given, **arguments(words)))
+    numbers = arguments(words)
+    given = SECOND[words[0]](second, **numbers) if words[0] in SECOND else plan_of
+    return lines_of(ALL_COMMANDS[words[0]][1](sheet, given, **numbers))
 
 
 def main():
     data, words = sys.stdin.buffer.read(), sys.argv[1:]
-    plan = open(3, "rb").read() if words[:1] == [PAGE_OF_PLAN] else b""
-    sys.stdout.buffer.write(ask(words, data, plan=plan) if words else leastplan(data))
+    second = open(3, "rb").read() if words and words[0] in SECOND else b""
+    sys.stdout.buffer.write(ask(words, data, second=second) if words else leastplan(data))
 
 
 if __name__ == "__main__":

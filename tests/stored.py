@@ -408,7 +408,7 @@ def command_page():
         command, *arguments = words.split()
         sheet, *plan = map(example, names)
         asked = [ref.PAGE_OF_PLAN if plan else command, *arguments]
-        output = ref.ask(asked, sheet, plan=b"".join(plan)).decode()
+        output = ref.ask(asked, sheet, second=b"".join(plan)).decode()
         paths = " ".join("examples/" + name for name in names)
         blocks.append("$ ./leastplan %s %s\n%s" % (words, paths, output))
     return "\n".join(blocks).encode()
