@@ -370,7 +370,7 @@ output, byte for byte, up to an empty line. tests/stored.py makes this page by t
 tests/check_commands types all of it again.
 """
 
-# The words of each command on the page, the sheet among the examples, and a plan if one is handed in.
+# The words of each command on the page, the sheet among the examples, and the second file, if any: a plan or a script.
 PAGE = [
     ("bounds", "phase_locked_loop.sheet"),
     ("bounds", "no_register.sheet"),
@@ -386,6 +386,7 @@ PAGE = [
     ("page interval=3", "three_phases.sheet"),
     ("page interval=3", "three_phases.sheet", "three_phases.plan"),
     ("page interval=1", "both_bounds_low.sheet"),
+    ("table interval=3", "three_phases.sheet", "three_phases.script"),
     ("check", "sample_deadline.sheet"),
     ("check", "leading_zero.sheet"),
     ("check", "window_reversed.sheet"),
@@ -406,9 +407,9 @@ def command_page():
     blocks = [PAGE_HEAD]
     for words, *names in PAGE:
         command, *arguments = words.split()
-        sheet, *plan = map(example, names)
-        asked = [ref.PAGE_OF_PLAN if plan else command, *arguments]
-        output = ref.ask(asked, sheet, second=b"".join(plan)).decode()
+        sheet, *second = map(example, names)
+        asked = [ref.PAGE_OF_PLAN if second and command == "page" else command, *arguments]
+        output = ref.ask(asked, sheet, second=b"".join(second)).decode()
         paths = " ".join("examples/" + name for name in names)
         blocks.append("$ ./leastplan %s %s\n%s" % (words, paths, output))
     return "\n".join(blocks).encode()
