@@ -392,6 +392,7 @@ def scripts():
     yield from outside_windows()
     yield from upside_down()
     yield from random_scripts(12, sheets.narrow_sheet, sheets.windowed_sheet)
+    yield from offers_and_bookings()
 
 
 def as_read(sheet):

@@ -1,4 +1,5 @@
 // Lines on standard output: a key and the numbers of an answer.
+use placing::OfferAnswer;
 use placing_table::Placement;
 use placing_table::Table;
 use sizes::MOST_OPERATIONS;
@@ -28,6 +29,25 @@ pub fn verdict(consistent: bool) {
 // The answer of a placing, and the instance.
 pub fn placed(answer: usize, instance: usize) {
     test_print::pair(b"place=", answer, instance);
+}
+
+// The same of a booking.
+pub fn booked(answer: usize, instance: usize) {
+    test_print::pair(b"book=", answer, instance);
+}
+
+// The answer of an offer, and what it names.
+pub fn offered(given: OfferAnswer) {
+    let offer = given.offer;
+    text(b"offer=");
+    number(given.answer);
+    text(b",");
+    number(offer.operation);
+    text(b",");
+    number(offer.start);
+    text(b",");
+    number(offer.instance);
+    text(b"\n");
 }
 
 fn is_nothing(p: Placement) -> bool {

@@ -2,10 +2,13 @@
 //   new=L           takes a new table for interval L
 //   entry=i,p,t,u   writes entry i of the table: start t, instance u, placed where p is not 0
 //   consistent=L    asks whether the table is consistent at interval L
+//   offer=L,i,t     asks for an offer for operation i at start t at interval L
+//   book=L,i,t,u    books the offer of instance u to operation i at start t at interval L
 //   place=L,i,t     places operation i at start t at interval L
 //   table=0         prints the table
 // Any other line ends the script.
 use crate::print;
+use placing::Offer;
 use placing_table::Placement;
 use placing_table::Table;
 use scan::read_line;
@@ -60,8 +63,14 @@ fn placed(sheet: Sheet, interval: usize, table: Table, op: usize, start: usize) 
     answer.table
 }
 
-// The lines that alter the table.
-fn altered(sheet: Sheet, table: Table, s: &[u8], at: usize) -> Step {
+fn booked(sheet: Sheet, interval: usize, table: Table, offer: Offer) -> Table {
+    let answer = placing::book(sheet, interval, table, offer);
+    print::booked(answer.answer, answer.instance);
+    answer.table
+}
+
+// The lines that hand in a table or a part of it.
+fn handed_in(sheet: Sheet, table: Table, s: &[u8], at: usize) -> Step {
     let new = read_line(s, at, b"new=", 1, NO_MINUS);
     if new.ok {
         let v = new.values;
@@ -83,12 +92,30 @@ fn altered(sheet: Sheet, table: Table, s: &[u8], at: usize) -> Step {
             table: written(table, count_of(v[0]), p),
         };
     }
+    Step { next: 0, table }
+}
+
+// The lines that put an operation in.
+fn put_in(sheet: Sheet, table: Table, s: &[u8], at: usize) -> Step {
     let place = read_line(s, at, b"place=", 3, NO_MINUS);
     if place.ok {
         let v = place.values;
         return Step {
             next: place.next,
             table: placed(sheet, count_of(v[0]), table, count_of(v[1]), count_of(v[2])),
+        };
+    }
+    let book = read_line(s, at, b"book=", 4, NO_MINUS);
+    if book.ok {
+        let v = book.values;
+        let offer = Offer {
+            operation: count_of(v[1]),
+            start: count_of(v[2]),
+            instance: count_of(v[3]),
+        };
+        return Step {
+            next: book.next,
+            table: booked(sheet, count_of(v[0]), table, offer),
         };
     }
     Step { next: 0, table }
@@ -101,6 +128,18 @@ fn asked(sheet: Sheet, table: Table, s: &[u8], at: usize) -> usize {
         let v = consistent.values;
         print::verdict(placing_table::consistent(sheet, count_of(v[0]), table));
         return consistent.next;
+    }
+    let offer = read_line(s, at, b"offer=", 3, NO_MINUS);
+    if offer.ok {
+        let v = offer.values;
+        print::offered(placing::make_offer(
+            sheet,
+            count_of(v[0]),
+            table,
+            count_of(v[1]),
+            count_of(v[2]),
+        ));
+        return offer.next;
     }
     let whole = read_line(s, at, b"table=", 1, NO_MINUS);
     if whole.ok {
@@ -115,7 +154,11 @@ fn line(sheet: Sheet, table: Table, s: &[u8], at: usize) -> Step {
     if at < next {
         return Step { next, table };
     }
-    altered(sheet, table, s, at)
+    let step = handed_in(sheet, table, s, at);
+    if at < step.next {
+        return step;
+    }
+    put_in(sheet, table, s, at)
 }
 
 pub fn run(sheet: Sheet, s: &[u8]) {
