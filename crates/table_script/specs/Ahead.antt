@@ -1,6 +1,6 @@
 -- For a caller that walks a script all of whose lines are steps, by `read_step` from place to place: what holds before
 -- each line, and that the steps that were read are those of the script. Assumes nothing.
-use mathlib.Core.Path.{_≡_, refl, ap, subst, _∙_}
+use mathlib.Core.Path.{_≡_, refl, ap, subst}
 use mathlib.Core.List.{List, [], _∷_, _++_}
 use Prim.Native.Nat.{ℕ, zero, suc, _+_, _≤_, _<_}
 use native.Mathlib.Decide.{decLt}
@@ -91,5 +91,4 @@ pub further : (s : List ℕ) (p : ℕ) {r : StepLine} {st : Step} {q : ℕ} → 
     → p < q
 further s p {r} {st} {q} h e g =
     let w : q ≤ length s = within-read s (e .1) g in
-    omega
-    (arith, shorter (drop p s) st (drop q s) (seen-read s (e .0) g), length-drop p s, length-drop q s)
+    omega (arith, shorter (drop p s) st (drop q s) (seen-read s (e .0) g), length-drop p s, length-drop q s)

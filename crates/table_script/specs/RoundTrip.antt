@@ -1,21 +1,24 @@
--- The line of a step reads as that step, and bytes that read as a step begin with its line.
+-- The line of a step reads as that step, and bytes that read as a step begin with its line. So the lines of steps read
+-- as those steps, and bytes that read as steps are their lines.
 -- Assumes nothing.
 use mathlib.Core.Path.{_≡_, refl, sym, ap, subst, _∙_}
-use mathlib.Core.List.{List, [], _∷_, _++_}
-use Prim.Native.Nat.{ℕ, _≤_, _<_}
+use mathlib.Core.List.{List, [], _∷_, _++_, append-assoc, append-nil}
+use Prim.Native.Nat.{ℕ, zero, suc, _≤_, _<_}
 use native.Mathlib.Omega.{arith}
 use lib.IntN.{ℤ, pos}
 use lib.ListN.{length, length-append}
-use Rattle.text.specs.Lines.{lineTextOf}
+use Rattle.text.specs.Lines.{lineTextOf, linesText}
 use Rattle.text.specs.Text.{lineText}
 use Rattle.scan.specs.Line.{Fields, fields, bad, noMinus, lineOf, stripped}
 use Rattle.scan.specs.RoundTrip.{reads-line, line-text}
 use Rattle.scan.specs.PlainLaws.{two-plain, three-plain}
 use Rattle.table_script.specs.declared.Step.{Step}
 use Rattle.table_script.specs.declared.Step.the-variants.{Offer, Book, Place}
-use Rattle.table_script.specs.Script.{offerKey, bookKey, placeKey, read, malformed, stepOf}
+use Rattle.table_script.specs.Script.{offerKey, bookKey, placeKey, StepRead, read, malformed, stepOf}
+use Rattle.table_script.specs.Script.{mostSteps, steps, stepsFrom, scriptOf}
 use Rattle.table_script.specs.Steps.{offer-step, book-step, place-step, no-step, no-read}
-use Rattle.table_script.specs.Text.{stepLine, Small}
+use Rattle.table_script.specs.Steps.{no-fault, steps-end, steps-over, steps-bad, steps-more}
+use Rattle.table_script.specs.Text.{stepLine, Small, AllSmall, stepLines}
 
 -- ---- the line of a step reads as that step
 
@@ -102,3 +105,66 @@ pub shorter : (bs : List ℕ) (st : Step) (rest : List ℕ) → stepOf bs ≡ re
 shorter bs st rest e =
     let t = ap length (step-text bs st rest e .text) in
     omega (arith, t, length-append (lineTextOf (stepLine st)) rest, some-bytes st)
+
+-- ---- the lines of steps read as those steps
+
+reads-from : (k : ℕ) (done sts : List Step) → length sts ≤ k → AllSmall sts
+    → stepsFrom k done (linesText (stepLines sts)) ≡ steps (done ++ sts)
+unfolding linesText
+reads-from k done [] h s = steps-end done k ∙ ap steps (sym (append-nil done))
+reads-from zero done (st ∷ sts) h s = absurd (omega arith)
+reads-from (suc k) done (st ∷ sts) h s =
+    let rest = linesText (stepLines sts) in
+    steps-more done k _ st rest
+    (omega (arith, some-bytes st, length-append (lineTextOf (stepLine st)) rest)) (reads-step st rest (s .0))
+    ∙ reads-from k (done ++ (st ∷ [])) sts (omega arith) (s .1) ∙ ap steps (append-assoc done (st ∷ []) sts)
+
+pub reads-script : (sts : List Step) → length sts ≤ mostSteps → AllSmall sts
+    → scriptOf (linesText (stepLines sts)) ≡ steps sts
+reads-script sts h s = reads-from mostSteps [] sts h s
+
+-- ---- bytes that read as steps are their lines
+
+record Script (done : List Step) (bs : List ℕ) (all : List Step) : Type 0 where
+  more : List Step
+  whole : all ≡ done ++ more
+  text : bs ≡ linesText (stepLines more)
+  small : AllSmall more
+
+module _ (all : List Step) where
+  script-end : (k : ℕ) (done : List Step) → stepsFrom k done [] ≡ steps all → Script done [] all
+  unfolding linesText
+  script-end k done e =
+      let q : steps done ≡ steps all = sym (steps-end done k) ∙ e in
+      record { more = []; whole = cc (append-nil done); text = refl; small = tt }
+
+  -- the first line, at its case
+  script-at : (k : ℕ) (done : List Step) (bs : List ℕ) (r : StepRead) → 0 < length bs → stepOf bs ≡ r
+      → ((st : Step) (rest : List ℕ) → stepsFrom k (done ++ (st ∷ [])) rest ≡ steps all
+      → Script (done ++ (st ∷ [])) rest all)
+      → stepsFrom (suc k) done bs ≡ steps all → Script done bs all
+  unfolding linesText
+  script-at k done bs malformed h e ih f = absurd (no-fault (sym f ∙ steps-bad done (suc k) bs h e))
+  script-at k done bs (read st rest) h e ih f =
+      let r = ih st rest (sym (steps-more done k bs st rest h e) ∙ f) in
+      let t = step-text bs st rest e in
+      record {
+        more = st ∷ r .more;
+        whole = r .whole ∙ append-assoc done (st ∷ []) (r .more);
+        text = t .text ∙ ap (λ (x : List ℕ). lineTextOf (stepLine st) ++ x) (r .text);
+        small = (t .small, r .small);
+      }
+
+  script-from : (k : ℕ) (done : List Step) (bs : List ℕ) → stepsFrom k done bs ≡ steps all → Script done bs all
+  script-from zero done [] e = script-end zero done e
+  script-from zero done (b ∷ bs) e = absurd (no-fault (sym e ∙ steps-over done (b ∷ bs) (omega arith)))
+  script-from (suc k) done [] e = script-end (suc k) done e
+  script-from (suc k) done (b ∷ bs) e =
+      script-at k done (b ∷ bs) (stepOf (b ∷ bs)) (omega arith) refl
+      (λ st rest f. script-from k (done ++ (st ∷ [])) rest f) e
+
+  pub script-text : (bs : List ℕ) → scriptOf bs ≡ steps all → (bs ≡ linesText (stepLines all)) × AllSmall all
+  script-text bs e =
+      let r = script-from mostSteps [] bs e in
+      let q : all ≡ r .more = r .whole in
+      (r .text ∙ ap (λ (x : List Step). linesText (stepLines x)) (sym q), subst AllSmall (sym q) (r .small))

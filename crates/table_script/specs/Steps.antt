@@ -15,7 +15,7 @@ use Rattle.table_script.specs.declared.Step.the-variants.{Offer, Book, P
 use Rattle.table_script.specs.declared.StepLine.{StepLine}
 use Rattle.table_script.specs.declared.StepLine.the-variants.{Read, Malformed}
 use Rattle.table_script.specs.Script.{offerKey, bookKey, placeKey, StepRead, read, malformed, stepOf, seen, within}
-use Rattle.table_script.specs.Script.{ScriptRead, steps, fault, stepsFrom}
+use Rattle.table_script.specs.Script.{steps, fault, stepsFrom}
 
 -- ---- the step of a line
 

@@ -1,6 +1,6 @@
--- The line of a step.
-use Prim.Native.Nat.{ℕ, _≤_}
-use mathlib.Core.List.{[], _∷_}
+-- The line of a step, and the lines of a script.
+use Prim.Native.Nat.{_≤_}
+use mathlib.Core.List.{List, [], _∷_, map}
 use lib.IntN.{pos}
 use Rattle.text.specs.Lines.{Line}
 use Rattle.text.specs.Sizes.{fourDigits}
@@ -19,3 +19,12 @@ abbrev pub Small : Step → Type 0
 Small (Offer i t) = (i ≤ fourDigits) × (t ≤ fourDigits)
 Small (Book i t u) = (i ≤ fourDigits) × (t ≤ fourDigits) × (u ≤ fourDigits)
 Small (Place i t) = (i ≤ fourDigits) × (t ≤ fourDigits)
+
+-- the same of each of them
+abbrev pub AllSmall : List Step → Type 0
+AllSmall [] = Unit {0}
+AllSmall (st ∷ sts) = Small st × AllSmall sts
+
+-- the lines of these steps
+abbrev pub stepLines : List Step → List Line
+stepLines = map stepLine

@@ -3,13 +3,11 @@
 use mathlib.Core.Path.{_≡_, refl, sym, ap₂, _∙_}
 use mathlib.Core.List.{List}
 use Prim.Native.Nat.{ℕ}
-use native.Mathlib.Omega.{arith}
 use lib.ListN.{drop}
 use Rattle.scan.specs.OneLine.{same-place}
-use Rattle.table_script.specs.declared.Step.{Step}
 use Rattle.table_script.specs.declared.StepLine.{StepLine}
 use Rattle.table_script.specs.declared.StepLine.the-variants.{Read, Malformed}
-use Rattle.table_script.specs.Script.{read, malformed, seen, within}
+use Rattle.table_script.specs.Script.{seen, within}
 use Rattle.table_script.specs.Steps.{StepAt, no-read}
 
 one : (s : List ℕ) (r q : StepLine) → within s r → within s q → seen s r ≡ seen s q → r ≡ q

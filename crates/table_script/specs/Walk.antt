@@ -6,10 +6,9 @@ use Prim.Native.Nat.{ℕ, zero, suc, _+_, _≤_, _<_}
 use native.Mathlib.Omega.{arith}
 use lib.ListN.{length, drop, length-drop, length-append, drop-of-length-le}
 use Rattle.table_script.specs.declared.Step.{Step}
-use Rattle.table_script.specs.declared.StepLine.the-variants.{Read, Malformed}
-use Rattle.table_script.specs.Script.{read, malformed, stepOf, seen, within}
+use Rattle.table_script.specs.Script.{read, malformed, stepOf}
 use Rattle.table_script.specs.Script.{mostSteps, ScriptRead, steps, fault, stepsFrom, scriptOf, faultOf}
-use Rattle.table_script.specs.Steps.{seen-read, seen-malformed, no-fault, steps-end, steps-over, steps-bad, steps-more}
+use Rattle.table_script.specs.Steps.{steps-end, steps-over, steps-bad, steps-more}
 
 -- at the place p of the bytes s, after the steps done: at most left lines more may follow, and what they make of the
 -- whole is want

@@ -8,8 +8,8 @@ use scan::read_plain;
 // The lines of a script, at most.
 pub const MOST_STEPS: usize = 1024;
 
-// One step of a script: an offer asked for, of an operation at a start; an offer booked, with its instance; an operation
-// placed at a start.
+// One step of a script: an offer asked for (operation, start), an offer booked (operation, start, instance), an
+// operation placed (operation, start).
 pub enum Step {
     Offer(usize, usize),
     Book(usize, usize, usize),

@@ -1,7 +1,6 @@
 -- `table_script::line_at_fault` meets its contract: each way through the loop is a law of `Turn`, the invariant.
 -- Assumes nothing.
 use Prim.Native.Nat.{_-_}
-use native.Mathlib.Omega.{arith}
 use borrow.Author.Needs.{needs}
 use Rattle.table_script.specs.Script.{mostSteps}
 use Rattle.table_script.specs.Steps.{seen-read, seen-malformed}
