@@ -30,7 +30,7 @@ use Rattle.plan.specs.declared.PlanAnswer.{PlanAnswer}
 use Rattle.plan.specs.Unique.{plan-at-unique, resource-unique}
 use Rattle.slot_order.specs.declared.SlotOrder.{SlotOrder}
 use Rattle.slot_order.specs.Unique.{slot-order-unique}
-use Rattle.report.specs.Reading.{read-in-range}
+use Rattle.round_trip.specs.Reading.{read-in-range}
 use Rattle.words.specs.declared.Command.{Command}
 use Rattle.words.specs.declared.Command.the-variants.{Write}
 use Rattle.commands.specs.Listing.{cellOf, rowLine, boundsLines, startsLines, separationsLines, planLines, orderLines, firstPage, answerAt}

@@ -18,13 +18,14 @@ use Rattle.placing.specs.Answers.{NewAt, PlaceAt, BookAt}
 use Rattle.placing.specs.Asking.{has-entry, KeptOrPlaced, place-kept-or, book-kept-or}
 
 module _ {s : Sheet} {L : ℕ} where
+  -- nothing is placed in a new table
+  pub new-empty : {r : NewTable} → NewAt s L r → r .table ≡ emptyTable
+  new-empty (at-no _ e) = ap (λ (x : NewTable). x .table) e
+  new-empty (at-yes _ (at-no _ e)) = ap (λ (x : NewTable). x .table) e
+  new-empty (at-yes _ (at-yes _ e)) = ap (λ (x : NewTable). x .table) e
+
   pub new-consistent : {r : NewTable} → NewAt s L r → Consistent s L (r .table)
-  new-consistent {r} a = subst (Consistent s L) (sym (made a)) (empty-consistent s L)
-    where
-      made : NewAt s L r → r .table ≡ emptyTable
-      made (at-no _ e) = ap (λ (x : NewTable). x .table) e
-      made (at-yes _ (at-no _ e)) = ap (λ (x : NewTable). x .table) e
-      made (at-yes _ (at-yes _ e)) = ap (λ (x : NewTable). x .table) e
+  new-consistent a = subst (Consistent s L) (sym (new-empty a)) (empty-consistent s L)
 
   still-consistent : {table : Table} {op start : ℕ} {r : PlaceAnswer} → length (table .entries) ≡ mostOperations
       → Consistent s L table → KeptOrPlaced s L table op start r → Consistent s L (r .table)

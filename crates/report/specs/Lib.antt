@@ -7,5 +7,4 @@ pub mod Printing
 pub mod Small
 pub mod Places
 pub mod Bounds
-pub mod Reading
 pub mod Entries

@@ -8,3 +8,4 @@ pub mod Lawful
 pub mod Lines
 pub mod Short
 pub mod RoundTrip
+pub mod Reading

@@ -10,7 +10,7 @@ use Rattle.reader.specs.declared.ReadAnswer.{ReadAnswer}
 use Rattle.reader.specs.Read.{readOf}
 use Rattle.reader.specs.FaultLaws.{fault-small}
 use Rattle.round_trip.specs.RoundTrip.{only-text}
-use Rattle.report.specs.Reading.{read-small}
+use Rattle.round_trip.specs.Reading.{read-small}
 use Rattle.commands.specs.Listing.{refusalLines}
 use Rattle.commands.specs.Shows.{lists}
 use Rattle.commands.specs.Answers.{put}

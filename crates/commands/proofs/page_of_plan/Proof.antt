@@ -7,7 +7,7 @@ use Rattle.sheet.specs.declared.Sheet.{Sheet}
 use Rattle.sheet.specs.Sheet.{InRange}
 use Rattle.sheet.specs.Questions.{at-no, at-yes}
 use Rattle.reader.specs.declared.ReadAnswer.{ReadAnswer}
-use Rattle.report.specs.Reading.{read-small, read-in-range}
+use Rattle.round_trip.specs.Reading.{read-small, read-in-range}
 use Rattle.commands.specs.Shows.{lists}
 use Rattle.commands.specs.Answers.{put}
 use Rattle.commands.specs.Prints.{ServesPage}

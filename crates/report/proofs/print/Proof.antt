@@ -10,7 +10,7 @@ use Rattle.reader.specs.declared.ReadAnswer.{ReadAnswer}
 use Rattle.reader.specs.Read.{readOf}
 use Rattle.report.specs.Print.{Run, Printed, refused, read}
 use Rattle.report.specs.Bounds.{answer-most}
-use Rattle.report.specs.Reading.{read-small, read-in-range}
+use Rattle.round_trip.specs.Reading.{read-small, read-in-range}
 use Rattle.report.specs.Printing.{weaken}
 use native.Mathlib.Omega.{arith}
 use borrow.Author.Needs.{needs}
