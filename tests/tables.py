@@ -14,7 +14,8 @@ WIDEST = ref.plain_sheet(128, 64, [(8, 1)] * 8, [0] * ref.MOST_OPERATIONS, [])
 def told(line):
     """What is said on standard error of a script whose line of this number is none."""
     steps = "offer=op,start, book=op,start,instance or place=op,start"
-    return b"leastplan: line %d of the script is not %s; try --help\n" % (line, steps.encode())
+    past = " (or is past the 1,024 lines of a script)" if ref.MOST_STEPS < line else ""
+    return b"leastplan: line %d of the script is not %s%s; try --help\n" % (line, steps.encode(), past.encode())
 
 
 def lines_of(steps):

@@ -1,12 +1,15 @@
-// ask: a command on a loop sheet, `ask COMMAND [interval=L] [pair=P]`, with the sheet on standard input, and for
-// `page_of_plan` the lines of a plan at descriptor 3.
-// The library says what the words ask for, `words::request`, what a plan's lines say, `plan_lines::read`, and all that
-// is then printed, `commands::answer` and `commands::page_of_plan`. With words that ask for no command, and with lines
-// that are no plan at the interval, it says so on standard error, reads no sheet and prints nothing.
+// ask: a command on a loop sheet, `ask COMMAND [interval=L] [pair=P]`, with the sheet on standard input, and at
+// descriptor 3 for `page_of_plan` the lines of a plan, for `table` a script.
+// The library says what the words ask for, `words::request`, what a plan's lines say, `plan_lines::read`, which line of
+// a script is at fault, `table_script::line_at_fault`, and all that is then printed, `commands::answer`,
+// `commands::page_of_plan` and `table_command::answer`. With words that ask for no command, with lines that are no plan
+// at the interval, and with a line that is no step of a script, it says so on standard error, reads no sheet and prints
+// nothing.
 use commands::ROOM;
 use libc::STDIN_FILENO;
 use libc::STDOUT_FILENO;
 use reader::LONGEST_SHEET;
+use table_script::MOST_STEPS;
 use text::Written;
 use words::Asked;
 use words::Command;
@@ -18,8 +21,14 @@ mod told; // told.rt: what is said on standard error
 // One byte more than a sheet may have, so that a longer one is told. A plan's lines have far fewer.
 const INPUT: usize = LONGEST_SHEET + 1;
 
-// Where the lines of a plan are read.
-const PLAN_FILENO: i32 = 3;
+// Bytes of the longest line of a script, `book=9999,9999,9999` and a line feed.
+const LONGEST_STEP: usize = 20;
+
+// One byte more than a script may have, so that a longer one is told.
+const SCRIPT_INPUT: usize = MOST_STEPS * LONGEST_STEP + 1;
+
+// Where the second file is read: the lines of a plan, or a script.
+const SECOND_FILENO: i32 = 3;
 
 // Room for the name of a command; a longer word is none.
 const LONGEST_NAME: usize = 16;
@@ -80,7 +89,7 @@ fn print_page(interval: usize, starts: &[usize], instances: &[usize]) {
 // Reads the plan, and prints its page if it is one at the interval.
 fn print_page_of_plan(interval: usize) {
     let mut input = [0u8; INPUT];
-    let n = io::read_full(PLAN_FILENO, &mut input);
+    let n = io::read_full(SECOND_FILENO, &mut input);
     let plan = plan_lines::read(&input[..n]);
     if !plan.ok {
         told::no_plan();
@@ -96,13 +105,35 @@ fn print_page_of_plan(interval: usize) {
     print_page(interval, &starts[..count], &instances[..count]);
 }
 
+// The same as `print` for a script.
+fn print_table(interval: usize, script: &[u8]) {
+    let mut input = [0u8; INPUT];
+    let n = io::read_full(STDIN_FILENO, &mut input);
+    let mut out = [0u8; table_command::ROOM];
+    let written: Written = table_command::answer(&input[..n], interval, script, &mut out);
+    let count = written.count;
+    io::write_all(STDOUT_FILENO, &out[..count]);
+}
+
+// Reads the script, and prints what its steps are answered if each line is one.
+fn print_table_of_script(interval: usize) {
+    let mut script = [0u8; SCRIPT_INPUT];
+    let n = io::read_full(SECOND_FILENO, &mut script);
+    let fault = table_script::line_at_fault(&script[..n]);
+    if fault != 0 {
+        told::no_step(fault);
+        return;
+    }
+    print_table(interval, &script[..n]);
+}
+
 fn main() {
     let mut name = [0u8; LONGEST_NAME];
     let n = os::arg(1, &mut name);
     match words::request(&name[..n], arguments()) {
         Asked::Do(command) => print(command),
         Asked::PageOfPlan(interval) => print_page_of_plan(interval),
-        Asked::Table(_) => told::unknown(),
+        Asked::Table(interval) => print_table_of_script(interval),
         Asked::Unknown => told::unknown(),
         Asked::Strange => told::strange(),
         Asked::Missing(argument) => told::fault(argument, b" is missing"),

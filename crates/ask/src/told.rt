@@ -1,14 +1,20 @@
-// What is said on standard error where the words ask for no command, or the lines of a plan are none. The script
-// `leastplan` speaks to the person, so its name stands first. The words themselves are not repeated.
+// What is said on standard error where the words ask for no command, the lines of a plan are none, or a line of a
+// script is no step. `./leastplan` speaks to the person, so its name stands first. The words themselves are not
+// repeated.
 use libc::STDERR_FILENO;
+use table_script::MOST_STEPS;
 use words::INTERVAL;
+
+fn say(text: &[u8]) {
+    io::write_all(STDERR_FILENO, text);
+}
 
 // What is named and what is wrong with it, in one line.
 fn line(what: &[u8], wrong: &[u8]) {
-    io::write_all(STDERR_FILENO, b"leastplan: ");
-    io::write_all(STDERR_FILENO, what);
-    io::write_all(STDERR_FILENO, wrong);
-    io::write_all(STDERR_FILENO, b"; try --help\n");
+    say(b"leastplan: ");
+    say(what);
+    say(wrong);
+    say(b"; try --help\n");
 }
 
 pub fn unknown() {
@@ -43,4 +49,15 @@ pub fn another_interval() {
         b"the plan",
         b" is of another interval than the one asked for",
     );
+}
+
+// The line of a script that is no step, by its number.
+pub fn no_step(number: usize) {
+    say(b"leastplan: line ");
+    io::print_decimal(STDERR_FILENO, number as u64);
+    say(b" of the script is not offer=op,start, book=op,start,instance or place=op,start");
+    if MOST_STEPS < number {
+        say(b" (or is past the 1,024 lines of a script)");
+    }
+    say(b"; try --help\n");
 }
