@@ -3,7 +3,6 @@ pub mod Columns
 pub mod Page
 -- ---- laws
 pub mod Digits
-pub mod Pasting
 pub mod Joining
 pub mod Users
 pub mod Widths

@@ -7,7 +7,7 @@ ghost use Rattle.text.specs.Sizes.{threeDigits};
 ghost use Rattle.text.specs.Text.{digits};
 ghost use Rattle.page_text.specs.Columns.{right};
 ghost use Rattle.page_text.specs.Digits.{hundredsByte, tensByte};
-ghost use Rattle.page_text.specs.Pasting.{Pasted};
+ghost use Rattle.text.specs.Pasting.{Pasted};
 
 // The bytes from `at` on, and the place after them.
 pub fn put_at(out: &mut [u8], at: usize, bytes: &[u8]) -> usize

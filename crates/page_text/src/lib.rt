@@ -12,7 +12,7 @@ ghost use Rattle.sheet.specs.Sheet.{typeAt};
 ghost use Rattle.sheet.specs.Questions.{Accepted};
 ghost use Rattle.page_text.specs.Columns.{upTo};
 ghost use Rattle.page_text.specs.Page.{headingLine, columnText, slotLine, userOf, typeText, pageText};
-ghost use Rattle.page_text.specs.Pasting.{Pasted};
+ghost use Rattle.text.specs.Pasting.{Pasted};
 ghost use Rattle.page_text.specs.Users.{FewUsers};
 ghost use Rattle.page_text.specs.Widths.{lineLength, typeLength, pageLength};
 use placing_table::Table;

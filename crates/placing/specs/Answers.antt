@@ -33,17 +33,17 @@ abbrev pub ToPlace : {A : Type 0} → (ℕ → A) → Sheet → ℕ → Table �
 ToPlace refused s L table op start Then =
     OnTable refused s L table (Asked (Target s op start) (Is (refused 11)) (Asked (Unplaced table op) (Is (refused 12)) Then))
 
+-- the number that these questions answer: 0 where all get a yes
+abbrev pub AskedToPlace : Sheet → ℕ → Table → ℕ → ℕ → ℕ → Type 0
+AskedToPlace s L table op start = ToPlace (λ (n : ℕ). n) s L table op start (Is 0)
+
 -- what is made of the lowest free instance
 pub record OfLowest {A : Type 0} (s : Sheet) (L : ℕ) (table : Table) (op start : ℕ) (made : ℕ → A) (a : A) : Type 0 where
   pub instance : ℕ
   pub lowest : LowestFree s L table op start instance
   pub pinned : a ≡ made instance
 
--- the number that these questions answer: 0 where all get a yes
-abbrev pub AskedToPlace : Sheet → ℕ → Table → ℕ → ℕ → ℕ → Type 0
-AskedToPlace s L table op start = ToPlace (λ (n : ℕ). n) s L table op start (Is 0)
-
--- those and 13, then what is made of the lowest free instance
+-- those questions and 13, then that
 abbrev pub ToLowest : {A : Type 0} → (ℕ → A) → Sheet → ℕ → Table → ℕ → ℕ → (ℕ → A) → A → Type 0
 ToLowest refused s L table op start made =
     ToPlace refused s L table op start

@@ -7,11 +7,10 @@ use Rattle.sheet.specs.declared.Sheet.{Sheet}
 use Rattle.sheet.specs.Questions.{Asked, Is, at-no, at-yes}
 use Rattle.placing_table.specs.declared.Table.{Table}
 use Rattle.placing_table.specs.Table.{SomeFree}
-use Rattle.placing.specs.declared.Offer.{Offer}
 use Rattle.placing.specs.declared.OfferAnswer.{OfferAnswer}
 use Rattle.placing.specs.declared.PlaceAnswer.{PlaceAnswer}
 use Rattle.placing.specs.Answers.{OfLowest, refused, placedOn, PlaceAt, noOffer, offering, OfferAt, OfferFree, BookAt}
-use Rattle.placing.specs.Asking.{Placeable, Split, stopped, went, split, refuses-placing, goes-on-placing, then-placing}
+use Rattle.placing.specs.Asking.{Split, stopped, went, split, refuses-placing, goes-on-placing, then-placing}
 use Rattle.placing.specs.Unique.{place-unique}
 
 abbrev number : OfferAnswer → ℕ

@@ -1,6 +1,6 @@
 -- The lowest free instance: the instances that an operation may have are below a number, and at most one of them is the
 -- lowest free one. Assumes nothing.
-use Prim.Native.Nat.{ℕ, _<_, _≤_}
+use Prim.Native.Nat.{ℕ, _<_}
 use native.Mathlib.Omega.{arith}
 use mathlib.Core.Path.{_≡_, refl, sym, ap, subst, _∙_}
 use Rattle.sheet.specs.declared.Sheet.{Sheet}

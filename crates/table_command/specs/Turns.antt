@@ -1,6 +1,6 @@
 -- The steps of a script one after the other, with their lines in a buffer: what holds before each, and after all.
 -- Assumes nothing.
-use mathlib.Core.Path.{_≡_, refl, sym, ap, subst, _∙_}
+use mathlib.Core.Path.{_≡_, sym, ap, subst, _∙_}
 use mathlib.Core.List.{List, [], _∷_, _++_, append-nil, append-assoc}
 use Prim.Native.Nat.{ℕ, _+_, _*_, _≤_, _<_}
 use native.Mathlib.Omega.{arith}
@@ -8,6 +8,7 @@ use lib.ListN.{length, length-append, length-replicate}
 use Rattle.sizes.specs.Sizes.{mostOperations}
 use Rattle.text.specs.Lines.{Line, linesText}
 use Rattle.text.specs.Filling.{lines-append}
+use Rattle.text.specs.Pasting.{Pasted, pasted-none, pasted-as, pasted-then}
 use Rattle.sheet.specs.declared.Sheet.{Sheet}
 use Rattle.sheet.specs.Questions.{Accepted}
 use Rattle.placing_table.specs.declared.Placement.{Placement}
@@ -15,7 +16,6 @@ use Rattle.placing_table.specs.declared.Table.{Table}
 use Rattle.placing_table.specs.Table.{nothing, emptyTable, Consistent}
 use Rattle.placing_table.specs.Keeps.{empty-consistent}
 use Rattle.placing.specs.declared.PlaceAnswer.{PlaceAnswer}
-use Rattle.page_text.specs.Pasting.{Pasted, pasted-none, pasted-as, pasted-then}
 use Rattle.table_script.specs.declared.Step.{Step}
 use Rattle.table_script.specs.declared.StepLine.{StepLine}
 use Rattle.table_script.specs.declared.StepLine.the-variants.{Read}

@@ -16,7 +16,7 @@ use Rattle.placing.specs.Unique.{place-unique, offer-unique, book-unique}
 use Rattle.page_text.specs.Page.{pageText}
 use Rattle.table_script.specs.declared.Step.{Step}
 use Rattle.table_script.specs.Script.{ScriptRead}
-use Rattle.table_command.specs.Prints.{StepAt, offered, booked, placed, stepLines, Runs, ends, then, entryLines, TableText, Serves, PrintsTable, at-fault, run, Answered}
+use Rattle.table_command.specs.Prints.{StepAt, offered, booked, placed, stepLines, Runs, ends, then, entryLines, TableText, PrintsTable, at-fault, run, Answered}
 
 module _ {s : Sheet} {L : ℕ} where
   step-one : {table : Table} {st : Step} → One (StepAt s L table st)

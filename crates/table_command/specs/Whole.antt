@@ -2,20 +2,19 @@
 -- command gives for the bytes of a sheet and of a script. Assumes nothing.
 use mathlib.Core.Path.{_≡_, refl, sym, ap, subst, _∙_}
 use mathlib.Core.List.{List, [], _++_}
-use Prim.Native.Nat.{ℕ, _+_, _-_, _*_, _≤_}
+use Prim.Native.Nat.{ℕ, _+_, _*_, _≤_}
 use native.Mathlib.Omega.{arith}
-use lib.ListN.{length, take, drop, length-append}
+use lib.ListN.{length, take, drop}
 use lib.Seq.{take-at}
 use Rattle.sizes.specs.Sizes.{mostOperations}
 use Rattle.text.specs.Text.{over}
 use Rattle.text.specs.Lines.{linesText}
-use Rattle.text.specs.Writing.{part-back}
+use Rattle.text.specs.Pasting.{Pasted, pasted-then, pasted-front}
 use Rattle.sheet.specs.declared.Sheet.{Sheet}
 use Rattle.sheet.specs.Facts.{ops-most}
 use Rattle.sheet.specs.Questions.{Accepted}
 use Rattle.page_text.specs.Page.{pageText}
-use Rattle.page_text.specs.Pasting.{Pasted, pasted-made, pasted-then, pasted-front}
-use Rattle.page_text.specs.Widths.{longestPage, pageLength, page-long, page-most}
+use Rattle.page_text.specs.Widths.{longestPage, page-long, page-most}
 use Rattle.table_script.specs.declared.Step.{Step}
 use Rattle.table_script.specs.Script.{mostSteps, ScriptRead, steps, fault, scriptOf, faultOf}
 use Rattle.table_command.specs.declared.steps.Run.{Run}
@@ -23,11 +22,6 @@ use Rattle.table_command.specs.Prints.{entryLines, TableText, Serves, Pr
 use Rattle.table_command.specs.Widths.{stepMost, entryMost, tableMost, SmallTable, entries-most}
 use Rattle.table_command.specs.Small.{table-small}
 use Rattle.table_command.specs.Turns.{AllRan}
-
--- a part that was lent from a place to the end, and came back with the text at its front
-pub part-pasted : (text out : List ℕ) (at : ℕ) {n : ℕ} {last : List ℕ} → at + length text ≤ length out → n ≡ length text
-    → last ≡ over text (take (length out - at) (drop at out)) → Pasted at text out (take at out ++ (last ++ drop (length out - at) (drop at out))) (at + n)
-part-pasted text out at {n} {last} h e f = pasted-made h (ap (λ (k : ℕ). at + k) e) (part-back text out at last (omega arith) f)
 
 -- ---- in a buffer
 

@@ -1,7 +1,6 @@
 // All that the command `table` prints for the bytes of a sheet and a script: what each step answers, the table at the
 // end and its page, at the front of a lent buffer. The program `ask` prints these bytes.
 ghost use mathlib.Core.Path.{_≡_};
-ghost use mathlib.Core.List.{[], _∷_};
 ghost use Prim.Native.Nat.{_≤_};
 ghost use Rattle.text.specs.Answers.{refusalText};
 ghost use Rattle.text.specs.Line.{writtenOf};

@@ -6,7 +6,7 @@ ghost use Rattle.sizes.specs.Sizes.{mostOperations};
 ghost use Rattle.text.specs.Line.{textOf};
 ghost use Rattle.text.specs.Lines.{lineTextOf, linesText};
 ghost use Rattle.sheet.specs.Questions.{Accepted};
-ghost use Rattle.page_text.specs.Pasting.{Pasted};
+ghost use Rattle.text.specs.Pasting.{Pasted};
 ghost use Rattle.table_script.specs.Script.{scriptOf, faultOf};
 ghost use Rattle.table_command.specs.Prints.{flagOf, entryOf, entryLines};
 ghost use Rattle.table_command.specs.Widths.{entryMost, tableMost, SmallEntry, SmallTable};

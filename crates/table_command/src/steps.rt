@@ -5,7 +5,7 @@ ghost use Prim.Native.Nat.{_+_, _*_, _≤_};
 ghost use lib.ListN.{length};
 ghost use Rattle.text.specs.Lines.{linesText};
 ghost use Rattle.sheet.specs.Questions.{Accepted};
-ghost use Rattle.page_text.specs.Pasting.{Pasted};
+ghost use Rattle.text.specs.Pasting.{Pasted};
 ghost use Rattle.table_script.specs.Script.{mostSteps, scriptOf, faultOf};
 ghost use Rattle.table_command.specs.Prints.{StepAt, stepLines};
 ghost use Rattle.table_command.specs.Widths.{stepMost, SmallStep};

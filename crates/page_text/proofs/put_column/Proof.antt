@@ -1,6 +1,6 @@
 -- `page_text::put_column` meets its contract.
 -- From what `put_at` and `put_in_five` ensure, by the three kinds of column.
-use Rattle.page_text.specs.Pasting.{pasted-as}
+use Rattle.text.specs.Pasting.{pasted-as}
 use Rattle.page_text.specs.Widths.{no-instance, unused, used}
 use borrow.Author.Needs.{needs}
 use Rattle.page_text.proofs.put_column.Statement.{statement}

@@ -7,7 +7,7 @@ use Rattle.sizes.specs.Sizes.{mostInstances}
 use Rattle.laws.specs.Entry.{vec}
 use Rattle.page_text.specs.Columns.{upTo}
 use Rattle.page_text.specs.Page.{columnText}
-use Rattle.page_text.specs.Pasting.{Pasted, pasted-none, pasted-as, pasted-then}
+use Rattle.text.specs.Pasting.{Pasted, pasted-none, pasted-as, pasted-then}
 use Rattle.page_text.specs.Joining.{up-none, up-more}
 use Rattle.page_text.specs.Widths.{columns-wide}
 use borrow.Author.Needs.{needs}

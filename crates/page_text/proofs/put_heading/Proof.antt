@@ -2,7 +2,7 @@
 -- From what `put_at` and `put_in_five` ensure: the three parts one after the other.
 use mathlib.Core.Path.{sym}
 use native.Mathlib.Omega.{arith}
-use Rattle.page_text.specs.Pasting.{pasted-as, pasted-then}
+use Rattle.text.specs.Pasting.{pasted-as, pasted-then}
 use Rattle.page_text.specs.Widths.{five-wide, heading-parts}
 use borrow.Author.Needs.{needs}
 use Rattle.page_text.proofs.put_heading.Statement.{statement}

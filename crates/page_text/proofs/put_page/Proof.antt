@@ -7,7 +7,7 @@ use Rattle.laws.specs.Count.{total-more, total-grows}
 use Rattle.sheet.specs.Sheet.{typeAt}
 use Rattle.sheet.specs.Facts.{types-most}
 use Rattle.page_text.specs.Page.{typeText}
-use Rattle.page_text.specs.Pasting.{Pasted, pasted-none, pasted-as, pasted-then, pasted-front}
+use Rattle.text.specs.Pasting.{Pasted, pasted-none, pasted-as, pasted-then, pasted-front}
 use Rattle.page_text.specs.Joining.{up-none, up-more}
 use Rattle.page_text.specs.Widths.{typeLength, linesTo, lines-long, page-lines}
 use borrow.Author.Needs.{needs}

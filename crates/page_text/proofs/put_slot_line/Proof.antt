@@ -4,7 +4,7 @@ use native.Mathlib.Omega.{arith}
 use mathlib.Core.Path.{sym}
 use Rattle.sizes.specs.Sizes.{mostInstances}
 use Rattle.laws.specs.Entry.{vec}
-use Rattle.page_text.specs.Pasting.{pasted-as, pasted-then}
+use Rattle.text.specs.Pasting.{pasted-as, pasted-then}
 use Rattle.page_text.specs.Widths.{four-wide, columns-wide, slot-parts}
 use borrow.Author.Needs.{needs}
 use Rattle.page_text.proofs.put_slot_line.Statement.{statement}

@@ -8,7 +8,7 @@ use Rattle.laws.specs.Entry.{vec}
 use Rattle.sheet.specs.Facts.{ops-most}
 use Rattle.page_text.specs.Columns.{upTo}
 use Rattle.page_text.specs.Page.{slotLine, userOf}
-use Rattle.page_text.specs.Pasting.{Pasted, pasted-none, pasted-as, pasted-then}
+use Rattle.text.specs.Pasting.{Pasted, pasted-none, pasted-as, pasted-then}
 use Rattle.page_text.specs.Joining.{up-none, up-more}
 use Rattle.page_text.specs.Widths.{few-slots, users-few, slot-same, slots-long}
 use borrow.Author.Needs.{needs}

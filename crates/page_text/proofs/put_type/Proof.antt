@@ -5,7 +5,7 @@ use native.Mathlib.Omega.{arith}
 use mathlib.Core.Path.{sym}
 use Rattle.sheet.specs.Sheet.{typeAt}
 use Rattle.page_text.specs.Page.{userOf}
-use Rattle.page_text.specs.Pasting.{pasted-none, pasted-as, pasted-then}
+use Rattle.text.specs.Pasting.{pasted-none, pasted-as, pasted-then}
 use Rattle.page_text.specs.Widths.{heading-long, limited-lines, unlimited-lines, limited-length}
 use borrow.Author.Needs.{needs}
 use Rattle.page_text.proofs.put_type.Statement.{statement}

@@ -3,7 +3,7 @@
 use native.Mathlib.Omega.{arith}
 use mathlib.Core.Path.{_≡_, refl, sym, ap, subst, _∙_}
 use mathlib.Core.List.{List}
-use Prim.Native.Nat.{ℕ, _≤_}
+use Prim.Native.Nat.{_≤_}
 use lib.ListN.{length}
 use lib.Seq.{length-take-le}
 use Rattle.text.specs.Answers.{refusalText}
@@ -18,9 +18,9 @@ use Rattle.table_script.specs.declared.Step.{Step}
 use Rattle.table_script.specs.Script.{scriptOf, steps}
 use Rattle.table_script.specs.Ahead.{sound}
 use Rattle.table_command.specs.Prints.{TableText}
-use Rattle.table_command.specs.Widths.{tableMost, refusal-short}
+use Rattle.table_command.specs.Widths.{refusal-short}
 use Rattle.table_command.specs.Small.{interval-small}
-use Rattle.table_command.specs.Whole.{Listed, listed-text, nothing-printed, printed}
+use Rattle.table_command.specs.Whole.{listed-text, nothing-printed, printed}
 use borrow.Author.Needs.{needs}
 use Rattle.table_command.proofs.answer.Statement.{statement}
 use Rattle.table_command.proofs.answer.Tie as tie

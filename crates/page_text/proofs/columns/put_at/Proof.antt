@@ -1,11 +1,11 @@
 -- `page_text::columns::put_at` meets its contract.
 -- From what `put_text` ensures, by the law of a part that was lent and came back.
-use Prim.Native.Nat.{ℕ, _+_, _-_}
+use Prim.Native.Nat.{_-_}
 use native.Mathlib.Omega.{arith}
-use mathlib.Core.Path.{_≡_, ap, _∙_}
+use mathlib.Core.Path.{_≡_, _∙_}
 use lib.ListN.{length, take, drop}
-use Rattle.text.specs.Writing.{part-back, part-length, fitting}
-use Rattle.page_text.specs.Pasting.{whole-count, pasted-made}
+use Rattle.text.specs.Writing.{part-length, fitting}
+use Rattle.text.specs.Pasting.{whole-count, pasted-part}
 use borrow.Author.Needs.{needs}
 use Rattle.page_text.proofs.columns.put_at.Statement.{statement}
 use Rattle.page_text.proofs.columns.put_at.Tie as tie
@@ -44,8 +44,7 @@ returns c =
     let n = part-length (a .out .now) (a .at) (omega arith) in
     let part = take (length (a .out .now) - a .at) (drop (a .at) (a .out .now)) in
     let k : p .result .count ≡ length (a .bytes .now) = whole-count (a .bytes .now) part (omega arith) (p .ensures .0) in
-    pasted-made h (ap (λ (x : ℕ). a .at + x) k)
-    (part-back (a .bytes .now) (a .out .now) (a .at) (p .last .0) (omega arith) (p .ensures .1 ∙ fitting (a .bytes .now) part (omega arith) .1))
+    pasted-part (a .bytes .now) (a .out .now) (a .at) h k (p .ensures .1 ∙ fitting (a .bytes .now) part (omega arith) .1)
 
 pub put-at-spec : {M : Type 1} → statement M
 put-at-spec =

@@ -1,6 +1,6 @@
 -- `page_text::columns::put_in_five` meets its contract.
 -- From what `in_five` and `put_at` ensure.
-use Rattle.page_text.specs.Pasting.{pasted-as}
+use Rattle.text.specs.Pasting.{pasted-as}
 use borrow.Author.Needs.{needs}
 use Rattle.page_text.proofs.columns.put_in_five.Statement.{statement}
 use Rattle.page_text.proofs.columns.put_in_five.Tie as tie

@@ -5,7 +5,7 @@ use mathlib.Core.Path.{sym, ap, _∙_}
 use mathlib.Core.List.{List}
 use lib.ListN.{drop, take}
 use Rattle.page_text.specs.Digits.{five-bytes, four-bytes}
-use Rattle.page_text.specs.Pasting.{pasted-as}
+use Rattle.text.specs.Pasting.{pasted-as}
 use borrow.Author.Needs.{needs}
 use Rattle.page_text.proofs.columns.put_in_four.Statement.{statement}
 use Rattle.page_text.proofs.columns.put_in_four.Tie as tie

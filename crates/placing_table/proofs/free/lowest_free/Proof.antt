@@ -1,7 +1,7 @@
 -- `placing_table::lowest_free` meets its contract. The invariant: no instance below u is free.
 -- Assumes nothing.
 use borrow.Author.Needs.{needs}
-use Prim.Native.Nat.{ℕ, _≤_, _-_}
+use Prim.Native.Nat.{_≤_, _-_}
 use native.Mathlib.Omega.{arith}
 use borrow.Author.Count.{below-more}
 use Rattle.placing_table.specs.Table.{found, none}

@@ -1,7 +1,6 @@
 -- `rules::holds_allowed` meets its contract: it asks `may_hold` about the operation's type.
 -- Assumes nothing.
 use mathlib.Core.Path.{subst}
-use mathlib.Core.Bool.{Bool}
 use borrow.Author.Needs.{needs}
 use Rattle.laws.specs.Says.{Says}
 use Rattle.sheet.specs.declared.ResourceType.{ResourceType}

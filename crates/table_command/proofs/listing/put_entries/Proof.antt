@@ -7,7 +7,7 @@ use mathlib.Core.Path.{_≡_, sym, ap}
 use lib.ListN.{length}
 use Rattle.text.specs.Lines.{linesText}
 use Rattle.placing_table.specs.Table.{placementAt}
-use Rattle.page_text.specs.Pasting.{Pasted, pasted-none, pasted-as, pasted-then}
+use Rattle.text.specs.Pasting.{Pasted, pasted-none, pasted-as, pasted-then}
 use Rattle.table_command.specs.Prints.{entryLines}
 use Rattle.table_command.specs.Widths.{entry-most, entries-none, entries-more, entries-most}
 use borrow.Author.Needs.{needs}

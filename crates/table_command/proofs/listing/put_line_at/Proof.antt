@@ -6,7 +6,7 @@ use mathlib.Core.Path.{_∙_}
 use lib.ListN.{length, take, drop}
 use Rattle.text.specs.Line.{textOf}
 use Rattle.text.specs.Writing.{part-length, fitting}
-use Rattle.table_command.specs.Whole.{part-pasted}
+use Rattle.text.specs.Pasting.{pasted-part}
 use borrow.Author.Needs.{needs}
 use Rattle.table_command.proofs.listing.put_line_at.Statement.{statement}
 use Rattle.table_command.proofs.listing.put_line_at.Tie as tie
@@ -44,7 +44,7 @@ returns c =
     let h = s .pre in
     let n = part-length (a .out .now) (a .at) (omega arith) in
     let f = fitting (textOf (a .line)) (take (length (a .out .now) - a .at) (drop (a .at) (a .out .now))) (omega arith) in
-    part-pasted (textOf (a .line)) (a .out .now) (a .at) h (p .ensures .0 ∙ f .0) (p .ensures .1 ∙ f .1)
+    pasted-part (textOf (a .line)) (a .out .now) (a .at) h (p .ensures .0 ∙ f .0) (p .ensures .1 ∙ f .1)
 
 pub put-line-at-spec : {M : Type 1} → statement M
 put-line-at-spec =

@@ -3,9 +3,10 @@
 use Prim.Native.Nat.{_+_, _≤_}
 use native.Mathlib.Omega.{arith}
 use lib.ListN.{length}
+use Rattle.text.specs.Pasting.{pasted-part}
 use Rattle.text.specs.Writing.{part-length}
 use Rattle.page_text.specs.Widths.{longestPage, page-most}
-use Rattle.table_command.specs.Whole.{part-pasted, entries-fit, page-fits, page-room, listed}
+use Rattle.table_command.specs.Whole.{entries-fit, page-fits, page-room, listed}
 use borrow.Author.Needs.{needs}
 use Rattle.table_command.proofs.listing.put_table.Statement.{statement}
 use Rattle.table_command.proofs.listing.put_table.Tie as tie
@@ -63,7 +64,7 @@ returns c =
     let g = c .before .before .put-page .ensures in
     let a = r .put-steps .ensures in
     listed (s .pre .0) a (s .pre .2) (p .put-entries .ensures)
-    (part-pasted _ (p .put-entries .last .0) (p .put-entries .result) (page-room (s .pre .0) a (s .pre .2) (p .put-entries .ensures)) (g .0) (g .1))
+    (pasted-part _ (p .put-entries .last .0) (p .put-entries .result) (page-room (s .pre .0) a (s .pre .2) (p .put-entries .ensures)) (g .0) (g .1))
 
 pub put-table-spec : {M : Type 1} → statement M
 put-table-spec =

@@ -8,7 +8,7 @@ use Rattle.text.specs.Line.{keyOf, textOf}
 use Rattle.text.specs.Lines.{lineTextOf}
 use Rattle.text.specs.Answers.{answerLine, instanceLine}
 use Rattle.text.specs.Joined.{one-number}
-use Rattle.page_text.specs.Pasting.{pasted-as, pasted-then}
+use Rattle.text.specs.Pasting.{pasted-as, pasted-then}
 use Rattle.table_command.specs.Widths.{lines-refused, lines-given, answer-short, instance-short}
 use borrow.Author.Needs.{needs}
 use Rattle.table_command.proofs.steps.put_answer.Statement.{statement}

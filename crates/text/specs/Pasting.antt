@@ -1,15 +1,15 @@
 -- Texts that go one after the other into a lent buffer, from a place on.
 -- Assumes nothing.
-use Prim.Native.Nat.{ℕ, _+_, _≤_}
+use Prim.Native.Nat.{ℕ, _+_, _-_, _≤_}
 use native.Mathlib.Omega.{arith}
 use mathlib.Core.Path.{_≡_, refl, sym, ap, subst, _∙_}
 use mathlib.Core.List.{List, [], _++_, append-nil}
 use lib.ListN.{length, take, drop, length-append, length-drop}
 use lib.Seq.{length-take-le}
 use Rattle.text.specs.declared.Written.{Written}
 use Rattle.text.specs.Text.{over}
 use Rattle.text.specs.Line.{writtenOf}
-use Rattle.text.specs.Writing.{pasted, paste-more, pasted-over, front-kept, length-over, answer-0}
+use Rattle.text.specs.Writing.{pasted, paste-more, pasted-over, part-back, front-kept, length-over, answer-0}
 
 -- the buffer new is old with the text from the place at on, and the text ends before the place end
 pub record Pasted (at : ℕ) (text old new : List ℕ) (end : ℕ) : Type 0 where
@@ -32,6 +32,11 @@ pasted-none old at h = record {
   buffer = sym (pasted-over [] old at h ∙ ap (λ (x : List ℕ). over x old) (append-nil (take at old)) ∙ front-kept old at h);
   size = refl;
 }
+
+-- a part that was lent from the place at to the end, and came back with the text at its front
+pub pasted-part : (text out : List ℕ) (at : ℕ) {n : ℕ} {last : List ℕ} → at + length text ≤ length out → n ≡ length text
+    → last ≡ over text (take (length out - at) (drop at out)) → Pasted at text out (take at out ++ (last ++ drop (length out - at) (drop at out))) (at + n)
+pasted-part text out at {n} {last} h e f = pasted-made h (ap (λ (k : ℕ). at + k) e) (part-back text out at last (omega arith) f)
 
 -- one text and then another
 pub pasted-then : {at j k : ℕ} {a b old mid new : List ℕ} → at ≤ length old → Pasted at a old mid j → Pasted j b mid new k → Pasted at (a ++ b) old new k
