@@ -23,7 +23,7 @@ def lines_of(steps):
 
 
 def random_script(rng, sheet, interval):
-    """Some steps for each operation, or as many as there may be."""
+    """No step, one, or some for each operation."""
     count = rng.choice([0, 1, len(sheet.ops), 3 * len(sheet.ops), 5 * len(sheet.ops)])
     return lines_of(placings.random_steps(rng, sheet, interval, count))
 
