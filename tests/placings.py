@@ -375,6 +375,7 @@ def offers_and_bookings():
         yield from part
     yield from random_offers(17, sheets.small_sheet, sheets.narrow_sheet, sheets.wide_sheet)
     yield from steps_one_by_one(18, sheets.small_sheet, sheets.windowed_sheet)
+    # As in upside_down: from such a text no sheet is read, and the answers are 3.
     reversed_window = with_windows(SIX, [(3, 2)] + SINGLE_CLOCKS[1:])
     yield reversed_window, [(b"offer", 2, 0, 0), (b"book", 2, 0, 0, 0), (b"offer", 0, 9, 9), (b"book", 0, 9, 9, 9)]
 

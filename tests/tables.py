@@ -13,9 +13,10 @@ WIDEST = ref.plain_sheet(128, 64, [(8, 1)] * 8, [0] * ref.MOST_OPERATIONS, [])
 
 def told(line):
     """What is said on standard error of a script whose line of this number is none."""
-    steps = "offer=op,start, book=op,start,instance or place=op,start"
-    past = " (or is past the 1,024 lines of a script)" if ref.MOST_STEPS < line else ""
-    return b"leastplan: line %d of the script is not %s%s; try --help\n" % (line, steps.encode(), past.encode())
+    wrong = b"not offer=op,start, book=op,start,instance or place=op,start"
+    if ref.MOST_STEPS < line:
+        wrong = b"past the 1,024 lines that it may have"
+    return b"leastplan: line %d of the script is %s; try --help\n" % (line, wrong)
 
 
 def lines_of(steps):
@@ -36,7 +37,7 @@ def longest_scripts(rng, sheet, interval):
     yield lines_of(offers + [("offer", 23, interval - 1)] * (ref.MOST_STEPS - len(offers)))
 
 
-# One of each kind, for case A at interval 3.
+# Two of each kind, for case A at interval 3.
 SCRIPT = b"offer=0,1\nbook=0,1,0\nplace=2,4\nbook=1,2,0\nplace=2,2\noffer=2,2\n"
 
 

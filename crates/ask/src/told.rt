@@ -51,13 +51,14 @@ pub fn another_interval() {
     );
 }
 
-// The line of a script that is no step, by its number.
+// The line of a script that is no step, or is past the most, by its number.
 pub fn no_step(number: usize) {
     say(b"leastplan: line ");
     io::print_decimal(STDERR_FILENO, number as u64);
-    say(b" of the script is not offer=op,start, book=op,start,instance or place=op,start");
     if MOST_STEPS < number {
-        say(b" (or is past the 1,024 lines of a script)");
+        say(b" of the script is past the 1,024 lines that it may have");
+    } else {
+        say(b" of the script is not offer=op,start, book=op,start,instance or place=op,start");
     }
     say(b"; try --help\n");
 }

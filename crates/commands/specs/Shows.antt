@@ -1,7 +1,7 @@
 -- Laws of a list of lines that is made line by line: which lines its text is that of.
 -- Assumes nothing.
 use mathlib.Core.Path.{_≡_, refl, sym, ap, subst, _∙_}
-use mathlib.Core.List.{List, [], _∷_, _++_, append-nil}
+use mathlib.Core.List.{List, [], _∷_, _++_}
 use Prim.Native.Nat.{ℕ, _+_, _≤_, _<_, min}
 use native.Mathlib.Omega.{arith}
 use lib.IntN.{pos}
@@ -15,7 +15,7 @@ use Rattle.text.specs.declared.Line as made
 use Rattle.text.specs.Line.{keyOf, textOf}
 use Rattle.text.specs.Lines.{Line, lineTextOf, linesText, countLine}
 use Rattle.text.specs.Joined.{one-number}
-use Rattle.text.specs.Filling.{lines-append}
+use Rattle.text.specs.Filling.{lines-append, one-line}
 use Rattle.lines.specs.declared.Lines.{Lines}
 use Rattle.lines.specs.Lines.{mostLines, shown, noLines, withLine}
 use Rattle.lines.specs.Shown.{Whole, none-shown, none-whole, with-count, with-shown, with-whole}
@@ -50,10 +50,6 @@ pub nothing : Shows noLines []
 unfolding noLines linesText
 nothing = record { text = none-shown; count = refl; whole = none-whole }
 
-lines-one : (x : Line) → linesText (x ∷ []) ≡ lineTextOf x
-unfolding linesText
-lines-one x = append-nil (lineTextOf x)
-
 -- one line more
 pub more : {ls : Lines} {want : List Line} → Shows ls want → length want < mostLines → (l : made.Line) (x : Line) → length (l .values) ≡ mostValues → textOf l ≡ lineTextOf x
     → Shows (withLine ls l) (want ++ (x ∷ []))
@@ -63,7 +59,7 @@ more {ls} {want} s h l x w e =
     let q = with-count ls l (omega arith) in
     record {
       text = with-shown ls l (omega arith) (s .whole .lines) ∙ ap (λ (t : List ℕ). t ++ textOf l) (s .text)
-          ∙ ap (λ (t : List ℕ). linesText want ++ t) (e ∙ sym (lines-one x)) ∙ sym (lines-append want (x ∷ []));
+          ∙ ap (λ (t : List ℕ). linesText want ++ t) (e ∙ sym (one-line x)) ∙ sym (lines-append want (x ∷ []));
       count = omega arith;
       whole = with-whole (s .whole) l w;
     }

@@ -20,7 +20,7 @@ use Rattle.sheet.specs.Questions.{Accepted}
 use Rattle.plan.specs.Rules.{InstanceAllowed, slot}
 use Rattle.placing_table.specs.declared.Placement.{Placement}
 use Rattle.placing_table.specs.declared.Table.{Table}
-use Rattle.placing_table.specs.Table.{placementAt}
+use Rattle.placing_table.specs.Table.{placedAt, placementAt}
 use Rattle.page_text.specs.Columns.{blanks, right, upTo, lineFeed}
 use Rattle.page_text.specs.Page.{columnWidth, slotWidth, headingLine, userText, columnText, slotLine, reserves, uses, userOf, typeText, pageText}
 use Rattle.page_text.specs.Digits.{five-tell, no-dash}
@@ -28,7 +28,7 @@ use Rattle.page_text.specs.Joining.{split-equal, up-parts}
 use Rattle.page_text.specs.Users.{last-true, last-only}
 use Rattle.page_text.specs.Widths.{lineLength, typeLength, column-wide, columns-wide, slot-parts, slot-long, limited-lines, users-few, few-slots, type-of-long, page-lines}
 use Rattle.page.specs.Answers.{fullTable, planPage, Tabled}
-use Rattle.page.specs.Tables.{placedAt, full-at}
+use Rattle.page.specs.Tables.{full-at}
 
 -- ---- the text tells who uses each instance
 

@@ -14,13 +14,13 @@ use Rattle.sheet.specs.Facts.{ops-most}
 use Rattle.sheet.specs.Questions.{Accepted}
 use Rattle.plan.specs.Rules.{slot}
 use Rattle.placing_table.specs.declared.Placement.{Placement}
-use Rattle.placing_table.specs.Table.{placementAt}
+use Rattle.placing_table.specs.Table.{placedAt, placementAt}
 use Rattle.page_text.specs.Page.{headingLine, slotLine, typeLines, uses, userOf, typeText}
 use Rattle.page_text.specs.Joining.{up-same}
 use Rattle.page_text.specs.Users.{last-same}
 use Rattle.page_text.specs.Widths.{slot-same, page-lines}
 use Rattle.page.specs.Answers.{fullTable, planPage}
-use Rattle.page.specs.Tables.{placedAt, full-at}
+use Rattle.page.specs.Tables.{full-at}
 
 -- two placements that agree in slot and instance where the type is r
 placed-same : (L resource t u t′ u′ r slot′ a : ℕ) → (resource ≡ r → (slot L t ≡ slot L t′) × (u ≡ u′))

@@ -14,10 +14,10 @@ use Rattle.sheet.specs.Sheet.{InRange}
 use Rattle.sheet.specs.Facts.{ops-most}
 use Rattle.plan.specs.Rules.{Plan, Overlap}
 use Rattle.placing_table.specs.declared.Placement.{Placement}
-use Rattle.placing_table.specs.Table.{placementAt, Placed, EntryAllowed, Apart, Consistent}
+use Rattle.placing_table.specs.Table.{placedAt, placementAt, Placed, EntryAllowed, Apart, Consistent}
 use Rattle.page_text.specs.Page.{pageText}
 use Rattle.page.specs.Answers.{fullTable, planPage, Tabled}
-use Rattle.page.specs.Tables.{placedAt, full-at, full-rest, full-same}
+use Rattle.page.specs.Tables.{full-at, full-rest, full-same}
 
 module _ {s : Sheet} (ok : InRange s) (ts us : List ℕ) where
   -- what is placed is an operation

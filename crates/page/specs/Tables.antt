@@ -6,18 +6,12 @@ use native.Mathlib.Numerals.{add-one}
 use native.Mathlib.Decide.{ℕ-discrete, decLt}
 use mathlib.Core.Path.{_≡_, refl, _∙_}
 use mathlib.Core.List.{List}
-use mathlib.Core.Bool.{true}
 use lib.ListN.{length, getD, set, length-set, replicate, getD-replicate, List·getD-eq-default}
 use lib.Seq.{getD-set-same, getD-set-other}
 use Rattle.sizes.specs.Sizes.{mostOperations}
 use Rattle.laws.specs.Entry.{vec}
-use Rattle.placing_table.specs.declared.Placement.{Placement}
-use Rattle.placing_table.specs.Table.{nothing, emptyTable, placementAt, placing}
+use Rattle.placing_table.specs.Table.{nothing, placedAt, emptyTable, placementAt, placing}
 use Rattle.page.specs.Answers.{fullTable}
-
--- an operation placed at a start on an instance
-abbrev pub placedAt : ℕ → ℕ → Placement
-placedAt t u = record { placed = true; start = t; instance = u }
 
 pub full-none : (ts us : List ℕ) → emptyTable ≡ fullTable 0 ts us
 unfolding fullTable

@@ -1,6 +1,6 @@
 // The lines of the page of a placing table (modulo reservation table on paper), written straight into the lent buffer.
-// The crate `page` puts the questions first: it calls `put_page` for a sheet and an interval that are accepted, with a
-// buffer that takes the page, which `page_length` tells.
+// Its callers put the questions first: `page` and `table_command` call `put_page` for a sheet and an interval that are
+// accepted, with a buffer that takes the page. `page` asks `page_length`, and `table_command` has room for any page.
 ghost use mathlib.Core.Path.{_≡_};
 ghost use Prim.Native.Nat.{_+_, _*_, _<_, _≤_};
 ghost use lib.ListN.{length};

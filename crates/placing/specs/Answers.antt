@@ -43,11 +43,13 @@ pub record OfLowest {A : Type 0} (s : Sheet) (L : ℕ) (table : Table) (op start
   pub lowest : LowestFree s L table op start instance
   pub pinned : a ≡ made instance
 
--- those questions and 13, then that
+-- question 13, then that
+abbrev pub IfFree : {A : Type 0} → (ℕ → A) → Sheet → ℕ → Table → ℕ → ℕ → (ℕ → A) → A → Type 0
+IfFree refused s L table op start made = Asked (SomeFree s L table op start) (Is (refused 13)) (OfLowest s L table op start made)
+
+-- all of these questions, then that
 abbrev pub ToLowest : {A : Type 0} → (ℕ → A) → Sheet → ℕ → Table → ℕ → ℕ → (ℕ → A) → A → Type 0
-ToLowest refused s L table op start made =
-    ToPlace refused s L table op start
-    (Asked (SomeFree s L table op start) (Is (refused 13)) (OfLowest s L table op start made))
+ToLowest refused s L table op start made = ToPlace refused s L table op start (IfFree refused s L table op start made)
 
 -- ---- placing
 
@@ -86,9 +88,10 @@ OfferAt s L table op start = ToLowest noOffer s L table op start (offering op st
 abbrev pub OfferFree : Sheet → ℕ → Table → Offer → Type 0
 OfferFree s L table o = Free s L table (o .operation) (o .start) (o .instance)
 
+-- that question, then the operation on the offered instance
+abbrev pub IfOfferFree : Sheet → ℕ → Table → Offer → PlaceAnswer → Type 0
+IfOfferFree s L table o = Asked (OfferFree s L table o) (Is (refused table 17)) (Is (placedOn table (o .operation) (o .start) (o .instance)))
+
 -- the service "book an offer": the sheet's questions, 4, 10 to 12 and 17, then the operation on the offered instance
 abbrev pub BookAt : Sheet → ℕ → Table → Offer → PlaceAnswer → Type 0
-BookAt s L table o =
-    ToPlace (refused table) s L table (o .operation) (o .start)
-    (Asked (OfferFree s L table o) (Is (refused table 17))
-    (Is (placedOn table (o .operation) (o .start) (o .instance))))
+BookAt s L table o = ToPlace (refused table) s L table (o .operation) (o .start) (IfOfferFree s L table o)

@@ -1,7 +1,6 @@
 -- A placing alters one entry: the table with that entry stored is the table that the placing gives. With a refusal the
 -- entry is one that stands there. Assumes nothing.
 use mathlib.Core.Path.{_≡_, sym, ap, subst, _∙_}
-use mathlib.Core.Bool.{true}
 use mathlib.Core.Logic.{⊎-elim}
 use mathlib.Core.List.{List}
 use Prim.Native.Nat.{ℕ, _<_}
@@ -12,7 +11,7 @@ use Rattle.sizes.specs.Sizes.{mostOperations}
 use Rattle.sheet.specs.declared.Sheet.{Sheet}
 use Rattle.placing_table.specs.declared.Placement.{Placement}
 use Rattle.placing_table.specs.declared.Table.{Table}
-use Rattle.placing_table.specs.Table.{nothing, placementAt, placing}
+use Rattle.placing_table.specs.Table.{nothing, placedAt, placementAt, placing}
 use Rattle.placing.specs.declared.PlaceAnswer.{PlaceAnswer}
 use Rattle.placing.specs.declared.Change.{Change}
 use Rattle.placing.specs.Answers.{PlaceAt}
@@ -36,7 +35,7 @@ OneEntry table at after = storing table at (placementAt after at) ≡ after
 
 placed-entry : (table : Table) (op start u at : ℕ) → op < length (table .entries) → at ≡ op → OneEntry table at (placing table op start u)
 placed-entry table op start u at n here =
-    let p : Placement = record { placed = true; start = start; instance = u } in
+    let p : Placement = placedAt start u in
     let e : getD (set (table .entries) op p) op nothing ≡ p = getD-set-same (table .entries) op p nothing n in
     subst (λ (k : ℕ). OneEntry table k (placing table op start u)) (sym here) (ap (storing table op) e)
 

@@ -4,42 +4,37 @@ use mathlib.Core.Path.{_≡_, sym, ap, subst, _∙_}
 use Prim.Native.Nat.{ℕ}
 use native.Mathlib.Omega.{arith}
 use Rattle.sheet.specs.declared.Sheet.{Sheet}
-use Rattle.sheet.specs.Questions.{Asked, Is, at-no, at-yes}
+use Rattle.sheet.specs.Questions.{at-no, at-yes}
 use Rattle.placing_table.specs.declared.Table.{Table}
 use Rattle.placing_table.specs.Table.{SomeFree}
 use Rattle.placing.specs.declared.OfferAnswer.{OfferAnswer}
 use Rattle.placing.specs.declared.PlaceAnswer.{PlaceAnswer}
-use Rattle.placing.specs.Answers.{OfLowest, refused, placedOn, PlaceAt, noOffer, offering, OfferAt, OfferFree, BookAt}
+use Rattle.placing.specs.Answers.{OfLowest, IfFree, refused, placedOn, PlaceAt, noOffer, offering, OfferAt, IfOfferFree, BookAt}
 use Rattle.placing.specs.Asking.{Split, stopped, went, split, refuses-placing, goes-on-placing, then-placing}
 use Rattle.placing.specs.Unique.{place-unique}
 
 abbrev number : OfferAnswer → ℕ
 number o = o .answer
 
--- what follows the questions before a placing: 13, or the offer
-abbrev Offering : Sheet → ℕ → Table → ℕ → ℕ → OfferAnswer → Type 0
-Offering s L table op start = Asked (SomeFree s L table op start) (Is (noOffer 13)) (OfLowest s L table op start (offering op start))
-
 module _ {s : Sheet} {L : ℕ} {table : Table} {op start : ℕ} where
   pub offer-refused : {o : OfferAnswer} → OfferAt s L table op start o → (o .answer ≡ 0 → ⊥) → PlaceAt s L table op start (refused table (o .answer))
   offer-refused {o} a z = at (split noOffer a)
     where
-      at : Split noOffer s L table op start (Offering s L table op start) o → PlaceAt s L table op start (refused table (o .answer))
+      at : Split noOffer s L table op start (IfFree noOffer s L table op start (offering op start)) o → PlaceAt s L table op start (refused table (o .answer))
       at (stopped r e) = refuses-placing (refused table) (r .asked) (r .nonzero) (ap (λ (x : OfferAnswer). refused table (x .answer)) e)
       at (went y (at-no n e)) = goes-on-placing (refused table) y (at-no n (ap (λ (x : OfferAnswer). refused table (x .answer)) e))
       at (went y (at-yes f g)) = absurd (z (ap number (g .pinned)))
 
   -- the lowest free instance was offered; its booking is what placing gives
   booked : {b : PlaceAnswer} {o : OfferAnswer} → SomeFree s L table op start → (g : OfLowest s L table op start (offering op start) o)
-      → Asked (OfferFree s L table (offering op start (g .instance) .offer)) (Is (refused table 17)) (Is (placedOn table op start (g .instance))) b
-      → Asked (SomeFree s L table op start) (Is (refused table 13)) (OfLowest s L table op start (placedOn table op start)) b
+      → IfOfferFree s L table (offering op start (g .instance) .offer) b → IfFree (refused table) s L table op start (placedOn table op start) b
   booked f g (at-no n _) = absurd (n (g .lowest .free))
   booked f g (at-yes _ e) = at-yes f (record { instance = g .instance; lowest = g .lowest; pinned = e })
 
   pub offer-booked : {o : OfferAnswer} → OfferAt s L table op start o → o .answer ≡ 0 → {b : PlaceAnswer} → BookAt s L table (o .offer) b → PlaceAt s L table op start b
   offer-booked {o} a z {b} w = at (split noOffer a)
     where
-      at : Split noOffer s L table op start (Offering s L table op start) o → PlaceAt s L table op start b
+      at : Split noOffer s L table op start (IfFree noOffer s L table op start (offering op start)) o → PlaceAt s L table op start b
       at (stopped r e) = absurd (r .nonzero (sym (ap number e) ∙ z))
       at (went y (at-no n e)) = absurd (omega (arith, ap number e))
       at (went y (at-yes f g)) =

@@ -6,13 +6,13 @@ use Rattle.sheet.specs.Sheet.{InRange, Interval}
 use Rattle.sheet.specs.Questions.{Asked, at-no, at-yes, Is}
 use Rattle.sheet.specs.Entries.{SameSheet, turn, range-same, at-interval-same}
 use Rattle.placing_table.specs.declared.Table.{Table}
-use Rattle.placing_table.specs.Table.{Consistent, Target, Unplaced, SomeFree}
+use Rattle.placing_table.specs.Table.{Consistent, Target, Unplaced}
 use Rattle.placing_table.specs.SameEntries.{target-same, consistent-same, free-same, free-back}
 use Rattle.placing.specs.declared.NewTable.{NewTable}
 use Rattle.placing.specs.declared.Offer.{Offer}
 use Rattle.placing.specs.declared.OfferAnswer.{OfferAnswer}
 use Rattle.placing.specs.declared.PlaceAnswer.{PlaceAnswer}
-use Rattle.placing.specs.Answers.{newTable, NewAt, OnTable, ToPlace, OfLowest, ToLowest, refused, placedOn, PlaceAt, noOffer, offering, OfferAt, OfferFree, BookAt}
+use Rattle.placing.specs.Answers.{newTable, NewAt, OnTable, ToPlace, IfFree, ToLowest, refused, placedOn, PlaceAt, noOffer, offering, OfferAt, IfOfferFree, BookAt}
 
 pub new-same : {s s' : Sheet} → SameSheet s s' → {L : ℕ} {r : NewTable} → NewAt s L r → NewAt s' L r
 new-same e = at-interval-same e newTable (λ _ _ p. p)
@@ -28,7 +28,7 @@ module _ {A : Type 0} {s s' : Sheet} (e : SameSheet s s') (refused : ℕ → A) 
       at ok i (at-yes c t) = at-yes (consistent-same e ok c) (f ok c t)
 
 module _ {A : Type 0} {s s' : Sheet} (e : SameSheet s s') (refused : ℕ → A) {L : ℕ} {table : Table} {op start : ℕ} {Then Then' : A → Type 0} {a : A} where
-  pub to-place-same : (InRange s → Consistent s L table → Target s op start → Then a → Then' a)
+  to-place-same : (InRange s → Consistent s L table → Target s op start → Then a → Then' a)
       → ToPlace refused s L table op start Then a → ToPlace refused s' L table op start Then' a
   to-place-same f = on-table-same e refused at
     where
@@ -44,9 +44,7 @@ module _ {A : Type 0} {s s' : Sheet} (e : SameSheet s s') (refused made : ℕ �
   to-lowest-same : ToLowest refused s L table op start made a → ToLowest refused s' L table op start made a
   to-lowest-same = to-place-same e refused at
     where
-      at : InRange s → Consistent s L table → Target s op start
-          → Asked (SomeFree s L table op start) (Is (refused 13)) (OfLowest s L table op start made) a
-          → Asked (SomeFree s' L table op start) (Is (refused 13)) (OfLowest s' L table op start made) a
+      at : InRange s → Consistent s L table → Target s op start → IfFree refused s L table op start made a → IfFree refused s' L table op start made a
       at ok c t (at-no n p) = at-no (λ f. n (record { instance = f .instance; free = free-back e ok c t (f .free) })) p
       at ok c t (at-yes f g) = at-yes (record { instance = f .instance; free = free-same e ok c t (f .free) }) (record {
         instance = g .instance;
@@ -64,8 +62,6 @@ module _ {s s' : Sheet} (e : SameSheet s s') {L : ℕ} {table : Table} where
   pub book-same : {o : Offer} {r : PlaceAnswer} → BookAt s L table o r → BookAt s' L table o r
   book-same {o} {r} = to-place-same e (refused table) at
     where
-      at : InRange s → Consistent s L table → Target s (o .operation) (o .start)
-          → Asked (OfferFree s L table o) (Is (refused table 17)) (Is (placedOn table (o .operation) (o .start) (o .instance))) r
-          → Asked (OfferFree s' L table o) (Is (refused table 17)) (Is (placedOn table (o .operation) (o .start) (o .instance))) r
+      at : InRange s → Consistent s L table → Target s (o .operation) (o .start) → IfOfferFree s L table o r → IfOfferFree s' L table o r
       at ok c t (at-no n p) = at-no (λ f. n (free-back e ok c t f)) p
       at ok c t (at-yes f p) = at-yes (free-same e ok c t f) p

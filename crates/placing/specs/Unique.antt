@@ -1,11 +1,11 @@
 -- At most one answer fits an input: a new table, a placing, an offer, a booking.
 -- Assumes nothing.
-use mathlib.Core.Path.{_≡_, sym, ap, _∙_}
+use mathlib.Core.Path.{sym, ap, _∙_}
 use Prim.Native.Nat.{ℕ}
-use native.Mathlib.Omega.{arith}
 use Rattle.sheet.specs.declared.Sheet.{Sheet}
 use Rattle.sheet.specs.Questions.{One, is-one, asked-one, at-interval-one}
 use Rattle.placing_table.specs.declared.Table.{Table}
+use Rattle.placing_table.specs.Vacancies.{lowest-one}
 use Rattle.placing.specs.declared.Offer.{Offer}
 use Rattle.placing.specs.Answers.{newTable, NewAt, OnTable, ToPlace, OfLowest, ToLowest, refused, placedOn, PlaceAt, noOffer, offering, OfferAt, BookAt}
 
@@ -26,11 +26,7 @@ module _ {A : Type 0} (refused : ℕ → A) {s : Sheet} {L : ℕ} {table : Table
 
 module _ {A : Type 0} (refused : ℕ → A) {s : Sheet} {L : ℕ} {table : Table} {op start : ℕ} (made : ℕ → A) where
   of-lowest-one : One (OfLowest s L table op start made)
-  of-lowest-one a b p q =
-      let x = p .lowest .lowest (q .instance) (q .lowest .free) in
-      let y = q .lowest .lowest (p .instance) (p .lowest .free) in
-      let e : p .instance ≡ q .instance = omega arith in
-      p .pinned ∙ ap made e ∙ sym (q .pinned)
+  of-lowest-one a b p q = p .pinned ∙ ap made (lowest-one (p .lowest) (q .lowest)) ∙ sym (q .pinned)
 
   to-lowest-one : One (ToLowest refused s L table op start made)
   to-lowest-one = to-place-one refused (asked-one (is-one (refused 13)) of-lowest-one)

@@ -17,7 +17,7 @@ use Rattle.placing_table.specs.Table.{nothing, placementAt, Placed, Entr
 -- ---- past the end
 
 module _ (table : Table) (n : length (table .entries) ≡ mostOperations) {i : ℕ} (h : mostOperations ≤ i) where
-  pub past-end : placementAt table i ≡ nothing
+  past-end : placementAt table i ≡ nothing
   past-end = List·getD-eq-default (table .entries) nothing (omega arith)
 
   pub unplaced-past : Placed table i → ⊥

@@ -1,5 +1,5 @@
--- A table in which nothing is placed is consistent, and an operation placed on a free instance keeps a table consistent.
--- Assumes nothing.
+-- A table in which nothing is placed is consistent, and an operation that is placed on a free instance keeps a table
+-- consistent. Assumes nothing.
 use mathlib.Core.Path.{_≡_, refl, sym, ap, subst, _∙_}
 use mathlib.Core.Bool.{true}
 use Prim.Native.Nat.{ℕ, _<_}
@@ -14,7 +14,7 @@ use Rattle.plan.specs.Rules.{Overlap}
 use Rattle.plan.specs.Pairs.{rivals-back, overlap-back}
 use Rattle.placing_table.specs.declared.Placement.{Placement}
 use Rattle.placing_table.specs.declared.Table.{Table}
-use Rattle.placing_table.specs.Table.{nothing, emptyTable, placementAt, Placed, EntryAllowed, Taken, Apart, Consistent, Target, Free, placing}
+use Rattle.placing_table.specs.Table.{nothing, placedAt, emptyTable, placementAt, Placed, EntryAllowed, Taken, Apart, Consistent, Target, Free, placing}
 use Rattle.placing_table.specs.Entries.{empty-allowed, placed-allowed, everywhere}
 
 -- ---- a new table
@@ -31,11 +31,11 @@ empty-consistent s L = record {
 -- ---- one operation more
 
 module _ (s : Sheet) (L : ℕ) (table : Table) (op start u : ℕ) (within : op < length (table .entries)) where
-  here : placementAt (placing table op start u) op ≡ record { placed = true; start = start; instance = u }
-  here = getD-set-same (table .entries) op (record { placed = true; start = start; instance = u }) nothing within
+  here : placementAt (placing table op start u) op ≡ placedAt start u
+  here = getD-set-same (table .entries) op (placedAt start u) nothing within
 
   there : (i : ℕ) → (i ≡ op → ⊥) → placementAt (placing table op start u) i ≡ placementAt table i
-  there i n = getD-set-other (table .entries) op i (record { placed = true; start = start; instance = u }) nothing n
+  there i n = getD-set-other (table .entries) op i (placedAt start u) nothing n
 
   module _ (c : Consistent s L table) (target : Target s op start) (free : Free s L table op start u) where
     -- what takes an instance in the new table from an operation at i with the entry p
@@ -43,7 +43,7 @@ module _ (s : Sheet) (L : ℕ) (table : Table) (op start u : ℕ) (within : op <
     Takes i p j = Taken s L (placing table op start u) i (p .start) (p .instance) j
 
     -- the new operation's instance is not taken by another
-    new-apart : (j : ℕ) → Takes op (record { placed = true; start = start; instance = u }) j → ⊥
+    new-apart : (j : ℕ) → Takes op (placedAt start u) j → ⊥
     unfolding Takes
     new-apart j t =
         let e = there j (λ q. t .rivals .different (sym q)) in
@@ -80,7 +80,7 @@ module _ (s : Sheet) (L : ℕ) (table : Table) (op start u : ℕ) (within : op <
     pub keeps : Consistent s L (placing table op start u)
     unfolding Takes
     keeps = record {
-      entries = λ i. store (EntryAllowed s L) (table .entries) op (record { placed = true; start = start; instance = u }) nothing within
+      entries = λ i. store (EntryAllowed s L) (table .entries) op (placedAt start u) nothing within
           (placed-allowed refl (target .operation) (target .inHorizon) (free .holds) (free .allowed)) i (λ n. c .entries i);
       apart = λ i. at i (ℕ-discrete i op);
     }

@@ -16,6 +16,10 @@ use Rattle.placing_table.specs.declared.Vacancy.the-variants.{Lowest, Fu
 abbrev pub nothing : Placement
 nothing = record { placed = false; start = 0; instance = 0 }
 
+-- an entry of an operation that is placed
+abbrev pub placedAt : ℕ → ℕ → Placement
+placedAt start u = record { placed = true; start = start; instance = u }
+
 -- a new table has nothing placed
 abbrev pub emptyTable : Table
 emptyTable = record { entries = replicate mostOperations nothing }
@@ -95,4 +99,4 @@ pub data VacancyAt (s : Sheet) (L : ℕ) (table : Table) (op start : ℕ) : Vaca
 
 -- the table with this one operation placed besides
 abbrev pub placing : Table → ℕ → ℕ → ℕ → Table
-placing table op start u = record { entries = set (table .entries) op (record { placed = true; start = start; instance = u }) }
+placing table op start u = record { entries = set (table .entries) op (placedAt start u) }

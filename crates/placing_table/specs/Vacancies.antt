@@ -33,7 +33,7 @@ module _ {s : Sheet} {L : ℕ} {table : Table} {op start : ℕ} where
   pub none-free : {r : ℕ} → InRoom s op r → Passed s L table op start r → SomeFree s L table op start → ⊥
   none-free room p w = p (w .instance) (room (w .instance) (w .free .allowed)) (w .free)
 
-  lowest-one : {u v : ℕ} → LowestFree s L table op start u → LowestFree s L table op start v → u ≡ v
+  pub lowest-one : {u v : ℕ} → LowestFree s L table op start u → LowestFree s L table op start v → u ≡ v
   lowest-one {u} {v} p q =
       let x = p .lowest v (q .free) in
       let y = q .lowest u (p .free) in

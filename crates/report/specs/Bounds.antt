@@ -1,7 +1,7 @@
 -- How many bytes the lines of one interval have at most, and laws that they have no more.
 -- Assumes nothing.
 use mathlib.Core.Path.{_≡_, ap}
-use mathlib.Core.List.{List, [], _∷_, map, append-nil}
+use mathlib.Core.List.{List, [], _∷_, map}
 use Prim.Native.Nat.{ℕ, zero, suc, _+_, _*_, _≤_, _<_}
 use native.Mathlib.Omega.{arith}
 use native.Mathlib.Decide.{decLt}
@@ -12,19 +12,14 @@ use Rattle.laws.specs.Entry.{vec}
 use Rattle.laws.specs.Each.{each}
 use Rattle.text.specs.Sizes.{threeDigits}
 use Rattle.text.specs.Keys as key
-use Rattle.text.specs.Text.{signedText}
-use Rattle.text.specs.Lines.{Line, lineTextOf, linesText}
-use Rattle.text.specs.Bounds.{Within, natural-most, line-most, cons-length, nil-length}
+use Rattle.text.specs.Lines.{Line, linesText}
+use Rattle.text.specs.Bounds.{Within, line-most, numberMost, number-most, one-most, answer-most, cons-length, nil-length}
 use Rattle.text.specs.Answers.{answerLine, intervalLine, loopLine, atLine, refusalText}
 use Rattle.sheet.specs.declared.Sheet.{Sheet}
 use Rattle.plan.specs.declared.PlanAnswer.{PlanAnswer}
 use Rattle.report.specs.Print.{detail, intervalLines}
 use Rattle.report.specs.Small.{SmallList, SmallAnswer}
 use Rattle.report.specs.Places.{detail-0, detail-5, detail-else}
-
--- a number of three digits and the byte after it
-abbrev numberMost : ℕ
-numberMost = 3 + 1
 
 -- the line `answer=`
 abbrev pub answerMost : ℕ
@@ -52,15 +47,9 @@ refusalMost = headMost + loopMost
 
 -- ---- one line
 
-number-most : (n : ℕ) → n ≤ threeDigits → length (signedText (pos n)) ≤ 3
-number-most n h = natural-most 2 n (omega arith)
-
 numbers-within : (ks : List ℕ) → SmallList ks → Within 3 (map pos ks)
 numbers-within [] h = tt
 numbers-within (k ∷ ks) h = (number-most k (h 0), numbers-within ks (λ i. h (suc i)))
-
-one-most : (key : List ℕ) (n : ℕ) → n ≤ threeDigits → length (lineTextOf (record { key = key; values = pos n ∷ [] })) ≤ length key + numberMost
-one-most key n h = line-most 3 key (pos n ∷ []) (number-most n h, tt)
 
 each-most : (n : ℕ) (t u : ℕ → ℕ) → ((i : ℕ) → t i ≤ threeDigits) → ((i : ℕ) → u i ≤ threeDigits)
     → length (linesText (each n (λ i. atLine (t i) (u i)))) ≤ atMost * n
@@ -138,17 +127,6 @@ module _ (s : Sheet) (L : ℕ) (a : PlanAnswer) (small : SmallAnswer s L a) wher
 
 -- ---- the line `answer=` alone
 
-pub answer-most : (n : ℕ) → n ≤ threeDigits → length (refusalText n) ≤ answerMost
-answer-most n h =
-    let c = cons-length (answerLine n) [] in
-    let z = nil-length in
-    let b = one-most (answerLine n .key) n h in
-    omega arith
-
 -- its bytes, whichever the answer is
 pub answer-short : {n r : ℕ} → n ≤ threeDigits → r ≡ length (refusalText n) → r ≤ answerMost
 answer-short {n} h e = let b = answer-most n h in omega arith
-
-pub answer-text : (n : ℕ) → refusalText n ≡ lineTextOf (answerLine n)
-unfolding linesText
-answer-text n = append-nil (lineTextOf (answerLine n))

@@ -2,9 +2,10 @@
 -- script.
 use Prim.Native.Nat.{ℕ}
 use mathlib.Core.Path.{_≡_}
-use mathlib.Core.Bool.{Bool, true, false, cond}
+use mathlib.Core.Bool.{cond}
 use mathlib.Core.List.{List, [], _∷_, _++_}
 use lib.Dec.{eqb}
+use Rattle.laws.specs.Count.{bit}
 use Rattle.laws.specs.Each.{each}
 use Rattle.text.specs.declared.Written.{Written}
 use Rattle.text.specs.Lines.{Line, linesText}
@@ -26,35 +27,33 @@ use Rattle.table_script.specs.Script.{ScriptRead, steps, fault, scriptOf}
 
 -- ---- a step
 
--- what it answers, by the service that it names: number, instance, and the table afterwards, which an offer leaves as
--- it was
+-- the answer of an offer, with the table, which it leaves as it was
+abbrev pub besideTable : Table → OfferAnswer → PlaceAnswer
+besideTable table o = record { answer = o .answer; instance = o .offer .instance; table = table }
+
+-- what it answers, by the service that it names: number, instance, and the table afterwards
 pub data StepAt (s : Sheet) (L : ℕ) (table : Table) : Step → PlaceAnswer → Type 0 where
   offered : {op start : ℕ} {o : OfferAnswer} → OfferAt s L table op start o
-      → StepAt s L table (Offer op start) (record { answer = o .answer; instance = o .offer .instance; table = table })
+      → StepAt s L table (Offer op start) (besideTable table o)
   booked : {op start u : ℕ} {a : PlaceAnswer} → BookAt s L table (record { operation = op; start = start; instance = u }) a
       → StepAt s L table (Book op start u) a
   placed : {op start : ℕ} {a : PlaceAnswer} → PlaceAt s L table op start a → StepAt s L table (Place op start) a
 
 -- its lines: the answer and, with 0, the instance
-unfoldable pub stepLines : PlaceAnswer → List Line
-stepLines a = answerLine (a .answer) ∷ cond (eqb (a .answer) 0) (instanceLine (a .instance) ∷ []) []
+unfoldable pub answerLines : PlaceAnswer → List Line
+answerLines a = answerLine (a .answer) ∷ cond (eqb (a .answer) 0) (instanceLine (a .instance) ∷ []) []
 
 -- the steps, one after the other from a table on: the table after them, and the lines of all of them
 pub data Runs (s : Sheet) (L : ℕ) : Table → List Step → Table → List Line → Type 0 where
   ends : {table : Table} → Runs s L table [] table []
   then : {table after : Table} {st : Step} {sts : List Step} {a : PlaceAnswer} {ls : List Line}
-      → StepAt s L table st a → Runs s L (a .table) sts after ls → Runs s L table (st ∷ sts) after (stepLines a ++ ls)
+      → StepAt s L table st a → Runs s L (a .table) sts after ls → Runs s L table (st ∷ sts) after (answerLines a ++ ls)
 
 -- ---- the table at the end
 
--- 1 for yes, 0 for no
-abbrev pub flagOf : Bool → ℕ
-flagOf true = 1
-flagOf false = 0
-
--- `entry=placed,start,instance`
+-- `entry=placed,start,instance`, where placed is 1 for yes, 0 for no
 abbrev pub entryOf : Placement → Line
-entryOf p = entryLine (flagOf (p .placed)) (p .start) (p .instance)
+entryOf p = entryLine (bit (p .placed)) (p .start) (p .instance)
 
 -- one for each of n operations
 abbrev pub entryLines : ℕ → Table → List Line

@@ -12,19 +12,19 @@ use Rattle.text.specs.Sizes.{threeDigits}
 use Rattle.sheet.specs.declared.Sheet.{Sheet}
 use Rattle.sheet.specs.Sheet.{typeOf, InRange}
 use Rattle.sheet.specs.Facts.{horizon-most, op-instances-most}
-use Rattle.sheet.specs.Questions.{Asked, Is, at-no, at-yes, AskedAt, Accepted}
+use Rattle.sheet.specs.Questions.{at-no, at-yes, AskedAt, Accepted}
 use Rattle.plan.specs.Rules.{InstanceAllowed}
 use Rattle.placing_table.specs.declared.Table.{Table}
-use Rattle.placing_table.specs.Table.{placementAt, SomeFree, Consistent}
+use Rattle.placing_table.specs.Table.{placementAt, Consistent}
 use Rattle.placing.specs.declared.Offer.{Offer}
 use Rattle.placing.specs.declared.OfferAnswer.{OfferAnswer}
 use Rattle.placing.specs.declared.PlaceAnswer.{PlaceAnswer}
-use Rattle.placing.specs.Answers.{AskedToPlace, OfLowest, refused, placedOn, noOffer, offering, OfferFree}
+use Rattle.placing.specs.Answers.{AskedToPlace, IfFree, refused, placedOn, noOffer, offering, IfOfferFree}
 use Rattle.placing.specs.Asking.{Placeable, Split, stopped, went, split, KeptOrPlaced, place-kept-or, book-kept-or}
 use Rattle.placing.specs.Keeps.{place-consistent, book-consistent}
 use Rattle.table_script.specs.declared.Step.{Step}
-use Rattle.table_command.specs.Prints.{StepAt, offered, booked, placed}
-use Rattle.table_command.specs.Widths.{SmallStep, SmallEntry, SmallTable}
+use Rattle.table_command.specs.Prints.{besideTable, StepAt, offered, booked, placed}
+use Rattle.table_command.specs.Widths.{SmallAnswer, SmallEntry, SmallTable}
 
 allowed-small : {s : Sheet} {i u : ℕ} → InRange s → i < s .«op_count» → InstanceAllowed s i u → u ≤ threeDigits
 allowed-small {s} {i} {u} ok n a = at (decLt 0 (typeOf s i .instances))
@@ -63,32 +63,32 @@ module _ {s : Sheet} {L : ℕ} (y : Accepted s L) where
   asked-small (at-yes _ (at-yes _ (at-yes _ (at-yes _ (at-yes _ e))))) = omega arith
 
   -- a refusal, and an instance that the operation may have
-  refused-small : {table : Table} {a : PlaceAnswer} {n : ℕ} → n ≤ threeDigits → a ≡ refused table n → SmallStep a
-  refused-small h e = subst SmallStep (sym e) (record { answer = h; instance = omega arith })
+  refused-small : {table : Table} {a : PlaceAnswer} {n : ℕ} → n ≤ threeDigits → a ≡ refused table n → SmallAnswer a
+  refused-small h e = subst SmallAnswer (sym e) (record { answer = h; instance = omega arith })
 
-  placed-small : {table : Table} {op start u : ℕ} {a : PlaceAnswer} → Placeable s L table op start → InstanceAllowed s op u → a ≡ placedOn table op start u → SmallStep a
-  placed-small p i e = subst SmallStep (sym e) (record { answer = omega arith; instance = allowed-small (y .sheet) (p .target .operation) i })
+  placed-small : {table : Table} {op start u : ℕ} {a : PlaceAnswer} → Placeable s L table op start → InstanceAllowed s op u → a ≡ placedOn table op start u → SmallAnswer a
+  placed-small p i e = subst SmallAnswer (sym e) (record { answer = omega arith; instance = allowed-small (y .sheet) (p .target .operation) i })
 
   module _ {table : Table} where
-    offer-small : {op start : ℕ} {o : OfferAnswer} → Split noOffer s L table op start (Asked (SomeFree s L table op start) (Is (noOffer 13)) (OfLowest s L table op start (offering op start))) o
-        → SmallStep (record { answer = o .answer; instance = o .offer .instance; table = table })
-    offer-small (stopped r e) = refused-small (asked-small (r .asked)) (ap (λ (x : OfferAnswer). record { answer = x .answer; instance = x .offer .instance; table = table }) e)
-    offer-small (went p (at-no _ e)) = refused-small (omega arith) (ap (λ (x : OfferAnswer). record { answer = x .answer; instance = x .offer .instance; table = table }) e)
+    offer-small : {op start : ℕ} {o : OfferAnswer} → Split noOffer s L table op start (IfFree noOffer s L table op start (offering op start)) o
+        → SmallAnswer (besideTable table o)
+    offer-small (stopped r e) = refused-small (asked-small (r .asked)) (ap (besideTable table) e)
+    offer-small (went p (at-no _ e)) = refused-small (omega arith) (ap (besideTable table) e)
     offer-small {op} {start} (went p (at-yes _ g)) =
-        subst (λ (x : OfferAnswer). SmallStep (record { answer = x .answer; instance = x .offer .instance; table = table })) (sym (g .pinned))
+        subst (λ (x : OfferAnswer). SmallAnswer (besideTable table x)) (sym (g .pinned))
         (record { answer = omega arith; instance = allowed-small (y .sheet) (p .target .operation) (g .lowest .free .allowed) })
 
-    book-small : {o : Offer} {a : PlaceAnswer} → Split (refused table) s L table (o .operation) (o .start) (Asked (OfferFree s L table o) (Is (refused table 17)) (Is (placedOn table (o .operation) (o .start) (o .instance)))) a → SmallStep a
+    book-small : {o : Offer} {a : PlaceAnswer} → Split (refused table) s L table (o .operation) (o .start) (IfOfferFree s L table o) a → SmallAnswer a
     book-small (stopped r e) = refused-small (asked-small (r .asked)) e
     book-small (went p (at-no _ e)) = refused-small (omega arith) e
     book-small (went p (at-yes f e)) = placed-small p (f .allowed) e
 
-    place-small : {op start : ℕ} {a : PlaceAnswer} → Split (refused table) s L table op start (Asked (SomeFree s L table op start) (Is (refused table 13)) (OfLowest s L table op start (placedOn table op start))) a → SmallStep a
+    place-small : {op start : ℕ} {a : PlaceAnswer} → Split (refused table) s L table op start (IfFree (refused table) s L table op start (placedOn table op start)) a → SmallAnswer a
     place-small (stopped r e) = refused-small (asked-small (r .asked)) e
     place-small (went p (at-no _ e)) = refused-small (omega arith) e
     place-small (went p (at-yes _ g)) = placed-small p (g .lowest .free .allowed) (g .pinned)
 
-    pub step-small : {st : Step} {a : PlaceAnswer} → StepAt s L table st a → SmallStep a
+    pub step-small : {st : Step} {a : PlaceAnswer} → StepAt s L table st a → SmallAnswer a
     step-small (offered p) = offer-small (split noOffer p)
     step-small (booked p) = book-small (split (refused table) p)
     step-small (placed p) = place-small (split (refused table) p)

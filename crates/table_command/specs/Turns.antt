@@ -20,19 +20,19 @@ use Rattle.table_script.specs.declared.Step.{Step}
 use Rattle.table_script.specs.declared.StepLine.{StepLine}
 use Rattle.table_script.specs.declared.StepLine.the-variants.{Read}
 use Rattle.table_script.specs.Script.{mostSteps, steps, scriptOf}
-use Rattle.table_script.specs.Steps as reading
+use Rattle.table_script.specs.Steps.{ReadAt}
 use Rattle.table_script.specs.Ahead.{Ahead, begin, next, room, finished, few-steps}
 use Rattle.table_command.specs.declared.steps.Run.{Run}
-use Rattle.table_command.specs.Prints.{StepAt, stepLines, Runs, ends, then}
+use Rattle.table_command.specs.Prints.{StepAt, answerLines, Runs, ends, then}
 use Rattle.table_command.specs.Widths.{stepMost, step-most}
 use Rattle.table_command.specs.Small.{step-small, step-kept}
 
 -- one step more at the end
 runs-then : {s : Sheet} {L : ℕ} {table after : Table} {sts : List Step} {ls : List Line} {st : Step} {a : PlaceAnswer}
-    → Runs s L table sts after ls → StepAt s L after st a → Runs s L table (sts ++ (st ∷ [])) (a .table) (ls ++ stepLines a)
-runs-then {s} {L} {table} {st = st} {a} ends w = subst (Runs s L table (st ∷ []) (a .table)) (append-nil (stepLines a)) (then w ends)
+    → Runs s L table sts after ls → StepAt s L after st a → Runs s L table (sts ++ (st ∷ [])) (a .table) (ls ++ answerLines a)
+runs-then {s} {L} {table} {st = st} {a} ends w = subst (Runs s L table (st ∷ []) (a .table)) (append-nil (answerLines a)) (then w ends)
 runs-then {s} {L} {table} {st = st} {a} (then {sts = sts} {a = b} {ls = ls} v r) w =
-    subst (Runs s L table (_ ∷ (sts ++ (st ∷ []))) (a .table)) (sym (append-assoc (stepLines b) ls (stepLines a))) (then v (runs-then r w))
+    subst (Runs s L table (_ ∷ (sts ++ (st ∷ []))) (a .table)) (sym (append-assoc (answerLines b) ls (answerLines a))) (then v (runs-then r w))
 
 -- ---- one step
 
@@ -41,7 +41,7 @@ pub record Stepped (s : Sheet) (L : ℕ) (table : Table) (st : Step) (at : ℕ) 
   pub answer : PlaceAnswer
   pub answered : StepAt s L table st answer
   pub after : r .table ≡ answer .table
-  pub pasted : Pasted at (linesText (stepLines answer)) old new (r .place)
+  pub pasted : Pasted at (linesText (answerLines answer)) old new (r .place)
 
 -- ---- the loop
 
@@ -85,7 +85,7 @@ module _ {s : Sheet} {L : ℕ} (y : Accepted s L) {script : List ℕ} {all : Lis
   pub fits : p < length script → stepMost * mostSteps ≤ length old → place + stepMost ≤ length out
   fits h m = omega (arith, t .short, room (t .ahead) h, t .pasted .size)
 
-  pub again : {l : StepLine} {st : Step} {q : ℕ} {r : Run} {new : List ℕ} → p < length script → reading.StepAt script p l → l ≡ Read st q
+  pub again : {l : StepLine} {st : Step} {q : ℕ} {r : Run} {new : List ℕ} → p < length script → ReadAt script p l → l ≡ Read st q
       → Stepped s L table st place out new r → Turn s L script all old new (r .table) (r .place) q
   again {st = st} {r = r} h e g w =
       let k = step-kept (t .long) (t .consistent) (w .answered) in
@@ -93,10 +93,10 @@ module _ {s : Sheet} {L : ℕ} (y : Accepted s L) {script : List ℕ} {all : Lis
       let n = length-append (t .done) (st ∷ []) in
       record {
         done = t .done ++ (st ∷ []);
-        lines = t .lines ++ stepLines (w .answer);
+        lines = t .lines ++ answerLines (w .answer);
         ahead = next (t .ahead) h e g;
-        runs = subst (λ (x : Table). Runs s L emptyTable (t .done ++ (st ∷ [])) x (t .lines ++ stepLines (w .answer))) (sym (w .after)) (runs-then (t .runs) (w .answered));
-        pasted = pasted-as (sym (lines-append (t .lines) (stepLines (w .answer)))) (pasted-then (omega arith) (t .pasted) (w .pasted));
+        runs = subst (λ (x : Table). Runs s L emptyTable (t .done ++ (st ∷ [])) x (t .lines ++ answerLines (w .answer))) (sym (w .after)) (runs-then (t .runs) (w .answered));
+        pasted = pasted-as (sym (lines-append (t .lines) (answerLines (w .answer)))) (pasted-then (omega arith) (t .pasted) (w .pasted));
         short = omega (arith, t .short, w .pasted .ends, b, n);
         consistent = subst (Consistent s L) (sym (w .after)) (k .0);
         long = ap (λ (x : Table). length (x .entries)) (w .after) ∙ k .1;

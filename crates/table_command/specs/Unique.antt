@@ -10,17 +10,16 @@ use Rattle.text.specs.PutLaws.{put-one}
 use Rattle.sheet.specs.declared.Sheet.{Sheet}
 use Rattle.sheet.specs.Questions.{One, is-one, asked-one, at-interval-one}
 use Rattle.placing_table.specs.declared.Table.{Table}
-use Rattle.placing.specs.declared.OfferAnswer.{OfferAnswer}
 use Rattle.placing.specs.declared.PlaceAnswer.{PlaceAnswer}
 use Rattle.placing.specs.Unique.{place-unique, offer-unique, book-unique}
 use Rattle.page_text.specs.Page.{pageText}
 use Rattle.table_script.specs.declared.Step.{Step}
 use Rattle.table_script.specs.Script.{ScriptRead}
-use Rattle.table_command.specs.Prints.{StepAt, offered, booked, placed, stepLines, Runs, ends, then, entryLines, TableText, PrintsTable, at-fault, run, Answered}
+use Rattle.table_command.specs.Prints.{besideTable, StepAt, offered, booked, placed, answerLines, Runs, ends, then, entryLines, TableText, PrintsTable, at-fault, run, Answered}
 
 module _ {s : Sheet} {L : ℕ} where
   step-one : {table : Table} {st : Step} → One (StepAt s L table st)
-  step-one {table} _ _ (offered p) (offered q) = ap (λ (o : OfferAnswer). record { answer = o .answer; instance = o .offer .instance; table = table }) (offer-unique _ _ p q)
+  step-one {table} _ _ (offered p) (offered q) = ap (besideTable table) (offer-unique _ _ p q)
   step-one _ _ (booked p) (booked q) = book-unique _ _ p q
   step-one _ _ (placed p) (placed q) = place-unique _ _ p q
 
@@ -30,7 +29,7 @@ module _ {s : Sheet} {L : ℕ} where
   runs-one {u = u} {ms = ms} (then {sts = sts} {a = a} {ls = ls} p r) (then {a = b} {ls = ns} q w) =
       let e = step-one a b p q in
       let i = runs-one r (subst (λ (x : PlaceAnswer). Runs s L (x .table) sts u ns) (sym e) w) in
-      (i .0, ap₂ (λ (x : PlaceAnswer) (l : List Line). stepLines x ++ l) e (i .1))
+      (i .0, ap₂ (λ (x : PlaceAnswer) (l : List Line). answerLines x ++ l) e (i .1))
 
   text-one : {sts : List Step} → One (TableText s L sts)
   text-one _ _ p q =

@@ -1,7 +1,6 @@
 -- How many bytes the lines of a step, those of the entries and the whole have at most, where their numbers have at most
 -- three digits. Assumes nothing.
 use mathlib.Core.Path.{_≡_, refl, ap, subst, _∙_}
-use mathlib.Core.Bool.{Bool, true, false}
 use mathlib.Core.List.{List, [], _∷_, _++_, append-nil}
 use Prim.Native.Nat.{ℕ, zero, suc, _+_, _*_, _≤_}
 use native.Mathlib.Numerals.{add-one}
@@ -11,26 +10,22 @@ use lib.IntN.{pos}
 use lib.ListN.{length, length-append}
 use borrow.Author.Tests.{eqb-true, eqb-false, eq-eqb, ne-eqb}
 use Rattle.sizes.specs.Sizes.{mostOperations}
+use Rattle.laws.specs.Count.{bit, bit-small}
 use Rattle.laws.specs.Each.{each, each-more}
 use Rattle.laws.specs.Tests.{by-test}
 use Rattle.text.specs.Keys as key
 use Rattle.text.specs.Sizes.{threeDigits}
-use Rattle.text.specs.Text.{signedText}
-use Rattle.text.specs.Lines.{Line, lineTextOf, linesText, countLine}
-use Rattle.text.specs.Answers.{answerLine, instanceLine, refusalText}
-use Rattle.text.specs.Bounds.{natural-most, line-most}
-use Rattle.text.specs.Filling.{lines-append}
+use Rattle.text.specs.Lines.{Line, lineTextOf, linesText}
+use Rattle.text.specs.Answers.{answerLine, instanceLine}
+use Rattle.text.specs.Bounds.{line-most, numberMost, number-most, one-most}
+use Rattle.text.specs.Filling.{lines-append, one-line}
 use Rattle.placing_table.specs.declared.Placement.{Placement}
 use Rattle.placing_table.specs.declared.Table.{Table}
 use Rattle.placing_table.specs.Table.{placementAt}
 use Rattle.placing.specs.declared.PlaceAnswer.{PlaceAnswer}
 use Rattle.page_text.specs.Widths.{longestPage}
 use Rattle.table_script.specs.Script.{mostSteps}
-use Rattle.table_command.specs.Prints.{stepLines, flagOf, entryOf, entryLines}
-
--- a number of three digits and the byte after it
-abbrev numberMost : ℕ
-numberMost = 3 + 1
+use Rattle.table_command.specs.Prints.{answerLines, entryOf, entryLines}
 
 -- the lines `answer=` and `instance=`
 abbrev pub stepMost : ℕ
@@ -47,7 +42,7 @@ tableMost = stepMost * mostSteps + (entryMost * mostOperations + longestPage)
 -- ---- numbers
 
 -- the numbers of a step's answer
-pub record SmallStep (a : PlaceAnswer) : Type 0 where
+pub record SmallAnswer (a : PlaceAnswer) : Type 0 where
   pub answer : a .answer ≤ threeDigits
   pub instance : a .instance ≤ threeDigits
 
@@ -59,58 +54,38 @@ pub record SmallEntry (p : Placement) : Type 0 where
 abbrev pub SmallTable : Table → Type 0
 SmallTable table = (i : ℕ) → SmallEntry (placementAt table i)
 
-number-most : (n : ℕ) → n ≤ threeDigits → length (signedText (pos n)) ≤ 3
-number-most n h = natural-most 2 n (omega arith)
-
--- ---- lines
-
-pub count-most : (k : List ℕ) (n : ℕ) → n ≤ threeDigits → length (lineTextOf (countLine k n)) ≤ length k + numberMost
-count-most k n h = omega (arith, line-most 3 k (pos n ∷ []) (number-most n h, tt))
-
-pub flag-most : (b : Bool) → flagOf b ≤ 1
-flag-most true = omega arith
-flag-most false = omega arith
-
 pub entry-most : (p : Placement) → SmallEntry p → length (lineTextOf (entryOf p)) ≤ entryMost
 entry-most p h =
-    let f = number-most (flagOf (p .placed)) (omega (arith, flag-most (p .placed))) in
+    let f = number-most (bit (p .placed)) (omega (arith, bit-small (p .placed))) in
     omega (
       arith,
-      line-most 3 key.entryKey (pos (flagOf (p .placed)) ∷ pos (p .start) ∷ pos (p .instance) ∷ [])
+      line-most 3 key.entryKey (pos (bit (p .placed)) ∷ pos (p .start) ∷ pos (p .instance) ∷ [])
           (f, (number-most (p .start) (h .start), (number-most (p .instance) (h .instance), tt))),
     )
 
 -- ---- a step
 
-pub one-line : (l : Line) → linesText (l ∷ []) ≡ lineTextOf l
-unfolding linesText
-one-line l = append-nil (lineTextOf l)
-
 module _ (a : PlaceAnswer) where
   -- with a refusal the answer alone, with 0 the instance too
-  pub lines-refused : (a .answer ≡ 0 → ⊥) → linesText (stepLines a) ≡ lineTextOf (answerLine (a .answer))
-  unfolding stepLines
+  pub lines-refused : (a .answer ≡ 0 → ⊥) → linesText (answerLines a) ≡ lineTextOf (answerLine (a .answer))
+  unfolding answerLines
   lines-refused n = rw (ne-eqb (a .answer) 0 n) (one-line (answerLine (a .answer)))
 
-  pub lines-given : a .answer ≡ 0 → linesText (stepLines a) ≡ lineTextOf (answerLine (a .answer)) ++ lineTextOf (instanceLine (a .instance))
-  unfolding stepLines linesText
+  pub lines-given : a .answer ≡ 0 → linesText (answerLines a) ≡ lineTextOf (answerLine (a .answer)) ++ lineTextOf (instanceLine (a .instance))
+  unfolding answerLines linesText
   lines-given e = rw (eq-eqb (a .answer) 0 e) (ap (λ (x : List ℕ). lineTextOf (answerLine (a .answer)) ++ x) (append-nil (lineTextOf (instanceLine (a .instance)))))
 
-  module _ (h : SmallStep a) where
+  module _ (h : SmallAnswer a) where
     pub answer-short : length (lineTextOf (answerLine (a .answer))) ≤ length key.answerKey + numberMost
-    answer-short = count-most key.answerKey (a .answer) (h .answer)
+    answer-short = one-most key.answerKey (a .answer) (h .answer)
 
     pub instance-short : length (lineTextOf (instanceLine (a .instance))) ≤ length key.instanceKey + numberMost
-    instance-short = count-most key.instanceKey (a .instance) (h .instance)
+    instance-short = one-most key.instanceKey (a .instance) (h .instance)
 
-    pub step-most : length (linesText (stepLines a)) ≤ stepMost
+    pub step-most : length (linesText (answerLines a)) ≤ stepMost
     step-most = by-test (eqb (a .answer) 0)
         (λ t. omega (arith, ap length (lines-given (eqb-true (a .answer) 0 t)), length-append (lineTextOf (answerLine (a .answer))) (lineTextOf (instanceLine (a .instance))), answer-short, instance-short))
         (λ t. omega (arith, ap length (lines-refused (eqb-false (a .answer) 0 t)), answer-short))
-
--- the number of a refusal alone
-pub refusal-short : (n : ℕ) → n ≤ threeDigits → length (refusalText n) ≤ length key.answerKey + numberMost
-refusal-short n h = omega (arith, ap length (one-line (answerLine n)), count-most key.answerKey n h)
 
 -- ---- entries
 

@@ -29,9 +29,9 @@ fn put_refusal(out: &mut [u8], answer: usize) -> Written
     text::put_text(out, &line[..count])
 }
 
-// All that is printed at the interval, at the front of `out`, and its count of bytes; nothing where a line of the script
-// is no step, and the refusal's number alone where the sheet or the interval is refused. 9 where it does not fit, and
-// then `out` stays as it was. `ROOM` bytes are always enough.
+// All that is printed at the interval, at the front of `out`, and its count of bytes; no bytes where a line of the
+// script is at fault (`table_script::line_at_fault` tells it), and the refusal's number alone where the sheet or the
+// interval is refused. 9 where it does not fit, and then `out` stays as it was. `ROOM` bytes are always enough.
 pub fn answer(bytes: &[u8], interval: usize, script: &[u8], out: &mut [u8]) -> Written
     ensures { λ r. ⌜ Answered (now (bytes .entry)) interval (now (script .entry)) (now (out .entry)) r (now (out .exit)) ⌝ }
 {

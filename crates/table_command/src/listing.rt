@@ -3,12 +3,13 @@ ghost use mathlib.Core.Path.{_≡_};
 ghost use Prim.Native.Nat.{_+_, _*_, _≤_};
 ghost use lib.ListN.{length};
 ghost use Rattle.sizes.specs.Sizes.{mostOperations};
+ghost use Rattle.laws.specs.Count.{bit};
 ghost use Rattle.text.specs.Line.{textOf};
 ghost use Rattle.text.specs.Lines.{lineTextOf, linesText};
 ghost use Rattle.sheet.specs.Questions.{Accepted};
 ghost use Rattle.text.specs.Pasting.{Pasted};
 ghost use Rattle.table_script.specs.Script.{scriptOf, faultOf};
-ghost use Rattle.table_command.specs.Prints.{flagOf, entryOf, entryLines};
+ghost use Rattle.table_command.specs.Prints.{entryOf, entryLines};
 ghost use Rattle.table_command.specs.Widths.{entryMost, tableMost, SmallEntry, SmallTable};
 ghost use Rattle.table_command.specs.Whole.{Listed};
 use crate::steps;
@@ -27,7 +28,7 @@ pub fn put_line_at(out: &mut [u8], at: usize, line: Line) -> usize
 
 // 1 for yes, 0 for no.
 fn flag(yes: bool) -> usize
-    ensures { λ r. ⌜ r ≡ flagOf yes ⌝ }
+    ensures { λ r. ⌜ r ≡ bit yes ⌝ }
 {
     if yes {
         return 1;

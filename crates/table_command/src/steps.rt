@@ -7,8 +7,8 @@ ghost use Rattle.text.specs.Lines.{linesText};
 ghost use Rattle.sheet.specs.Questions.{Accepted};
 ghost use Rattle.text.specs.Pasting.{Pasted};
 ghost use Rattle.table_script.specs.Script.{mostSteps, scriptOf, faultOf};
-ghost use Rattle.table_command.specs.Prints.{StepAt, stepLines};
-ghost use Rattle.table_command.specs.Widths.{stepMost, SmallStep};
+ghost use Rattle.table_command.specs.Prints.{StepAt, answerLines};
+ghost use Rattle.table_command.specs.Widths.{stepMost, SmallAnswer};
 ghost use Rattle.table_command.specs.Turns.{Stepped, AllRan};
 use crate::listing::put_line_at;
 use placing::Offer;
@@ -53,8 +53,8 @@ fn take_step(sheet: Sheet, interval: usize, table: Table, step: Step) -> PlaceAn
 
 // The lines of a step's answer from `at` on, and the place after them.
 fn put_answer(out: &mut [u8], at: usize, done: PlaceAnswer) -> usize
-    requires { ⌜ SmallStep done × (at + stepMost ≤ length (now out)) ⌝ }
-    ensures { λ x. ⌜ Pasted at (linesText (stepLines done)) (now (out .entry)) (now (out .exit)) x ⌝ }
+    requires { ⌜ SmallAnswer done × (at + stepMost ≤ length (now out)) ⌝ }
+    ensures { λ x. ⌜ Pasted at (linesText (answerLines done)) (now (out .entry)) (now (out .exit)) x ⌝ }
 {
     let after = put_line_at(out, at, text::count_line(text::ANSWER, done.answer));
     if done.answer != 0 {

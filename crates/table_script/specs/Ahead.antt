@@ -1,6 +1,6 @@
 -- For a caller that walks a script all of whose lines are steps, by `read_step` from place to place: what holds before
 -- each line, and that the steps that were read are those of the script. Assumes nothing.
-use mathlib.Core.Path.{_≡_, refl, ap, subst}
+use mathlib.Core.Path.{_≡_, refl, subst}
 use mathlib.Core.List.{List, [], _∷_, _++_}
 use Prim.Native.Nat.{ℕ, zero, suc, _+_, _≤_, _<_}
 use native.Mathlib.Decide.{decLt}
@@ -11,7 +11,7 @@ use Rattle.table_script.specs.declared.StepLine.{StepLine}
 use Rattle.table_script.specs.declared.StepLine.the-variants.{Read, Malformed}
 use Rattle.table_script.specs.Script.{StepRead, read, malformed, onStep, stepOf}
 use Rattle.table_script.specs.Script.{mostSteps, ScriptRead, steps, fault, stepsFrom, scriptOf, faultOf}
-use Rattle.table_script.specs.Steps.{StepAt, seen-read, seen-malformed, within-read, no-fault}
+use Rattle.table_script.specs.Steps.{ReadAt, seen-read, seen-malformed, within-read, no-fault}
 use Rattle.table_script.specs.RoundTrip.{shorter}
 use Rattle.table_script.specs.Walk.{Walk, ends, over, stops, turn}
 
@@ -42,7 +42,7 @@ module _ (s : List ℕ) where
   pub few-steps : {all : List Step} → scriptOf s ≡ steps all → length all ≤ mostSteps
   few-steps e = subst (Bounded mostSteps) e (bounded mostSteps [] s)
 
-  -- where no line is at fault there are steps, and else there are none
+  -- where no line is at fault there are steps
   pub sound : faultOf (scriptOf s) ≡ 0 → (all : List Step) × (scriptOf s ≡ steps all)
   unfolding faultOf
   sound z = at (scriptOf s) refl z
@@ -50,10 +50,6 @@ module _ (s : List ℕ) where
       at : (r : ScriptRead) → scriptOf s ≡ r → faultOf r ≡ 0 → (all : List Step) × (scriptOf s ≡ steps all)
       at (steps all) e f = (all, e)
       at (fault n) e f = let h : 0 < n = subst (Bounded mostSteps) e (bounded mostSteps [] s) in absurd (omega arith)
-
-  pub faulty : (faultOf (scriptOf s) ≡ 0 → ⊥) → {all : List Step} → scriptOf s ≡ steps all → ⊥
-  unfolding faultOf
-  faulty n e = n (ap faultOf e)
 
 -- ---- the walk
 
@@ -78,7 +74,7 @@ module _ {s : List ℕ} {all : List Step} {p : ℕ} {done : List Step} (a : Ahea
         at (yes m) = m
         at (no m) = absurd (no-fault (over a h (omega arith)))
 
-    module _ {r : StepLine} (e : StepAt s p r) where
+    module _ {r : StepLine} (e : ReadAt s p r) where
       -- it is a step
       pub next : {st : Step} {q : ℕ} → r ≡ Read st q → Ahead s all q (done ++ (st ∷ []))
       next g = turn a h room (seen-read s (e .0) g)
@@ -87,7 +83,7 @@ module _ {s : List ℕ} {all : List Step} {p : ℕ} {done : List Step} (a : Ahea
       never g = no-fault (stops a h (seen-malformed s (e .0) g))
 
 -- its line has at least one byte
-pub further : (s : List ℕ) (p : ℕ) {r : StepLine} {st : Step} {q : ℕ} → p < length s → StepAt s p r → r ≡ Read st q
+pub further : (s : List ℕ) (p : ℕ) {r : StepLine} {st : Step} {q : ℕ} → p < length s → ReadAt s p r → r ≡ Read st q
     → p < q
 further s p {r} {st} {q} h e g =
     let w : q ≤ length s = within-read s (e .1) g in

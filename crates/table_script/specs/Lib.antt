@@ -6,4 +6,5 @@ pub mod Steps
 pub mod Walk
 pub mod Unique
 pub mod RoundTrip
+pub mod Fault
 pub mod Ahead

@@ -44,11 +44,11 @@ module _ (bs : List ℕ) where
 -- ---- what `read_step` gives
 
 -- what its contract says of a result at a place of the bytes s
-abbrev pub StepAt : List ℕ → ℕ → StepLine → Type 0
-StepAt s at r = (seen s r ≡ stepOf (drop at s)) × within s r
+abbrev pub ReadAt : List ℕ → ℕ → StepLine → Type 0
+ReadAt s at r = (seen s r ≡ stepOf (drop at s)) × within s r
 
 module _ (s : List ℕ) (at : ℕ) (offer : PlainLine) (a : PlainAt s at offerKey 2 offer) where
-  pub gives-offer : offer .ok ≡ true → StepAt s at (Read (Offer (offer .first) (offer .second)) (offer .next))
+  pub gives-offer : offer .ok ≡ true → ReadAt s at (Read (Offer (offer .first) (offer .second)) (offer .next))
   unfolding seen within
   gives-offer t = (sym (offer-step (drop at s) _ _ _ (is-line s at offerKey 2 offer a t)), a .1 .next)
 
@@ -57,7 +57,7 @@ module _ (s : List ℕ) (at : ℕ) (offer : PlainLine) (a : PlainAt s at offerKe
     no-offer = is-bad s at offerKey 2 offer a x
 
     pub gives-book : book .ok ≡ true
-        → StepAt s at (Read (Book (book .first) (book .second) (book .third)) (book .next))
+        → ReadAt s at (Read (Book (book .first) (book .second) (book .third)) (book .next))
     unfolding seen within
     gives-book t = (sym (book-step (drop at s) no-offer _ _ _ _ (is-line s at bookKey 3 book b t)), b .1 .next)
 
@@ -65,12 +65,12 @@ module _ (s : List ℕ) (at : ℕ) (offer : PlainLine) (a : PlainAt s at offerKe
       no-book : lineOf bookKey 3 noMinus (drop at s) ≡ bad
       no-book = is-bad s at bookKey 3 book b y
 
-      pub gives-place : place .ok ≡ true → StepAt s at (Read (Place (place .first) (place .second)) (place .next))
+      pub gives-place : place .ok ≡ true → ReadAt s at (Read (Place (place .first) (place .second)) (place .next))
       unfolding seen within
       gives-place t =
           (sym (place-step (drop at s) no-offer no-book _ _ _ (is-line s at placeKey 2 place c t)), c .1 .next)
 
-      pub gives-none : place .ok ≡ false → StepAt s at Malformed
+      pub gives-none : place .ok ≡ false → ReadAt s at Malformed
       unfolding seen within
       gives-none t = (sym (no-step (drop at s) no-offer no-book (is-bad s at placeKey 2 place c t)), tt)
 

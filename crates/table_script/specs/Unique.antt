@@ -8,7 +8,7 @@ use Rattle.scan.specs.OneLine.{same-place}
 use Rattle.table_script.specs.declared.StepLine.{StepLine}
 use Rattle.table_script.specs.declared.StepLine.the-variants.{Read, Malformed}
 use Rattle.table_script.specs.Script.{seen, within}
-use Rattle.table_script.specs.Steps.{StepAt, no-read}
+use Rattle.table_script.specs.Steps.{ReadAt, no-read}
 
 one : (s : List ℕ) (r q : StepLine) → within s r → within s q → seen s r ≡ seen s q → r ≡ q
 unfolding seen within
@@ -20,5 +20,5 @@ one s (Read st p) Malformed f g e = absurd (no-read e)
 one s Malformed (Read su q) f g e = absurd (no-read (sym e))
 one s Malformed Malformed f g e = refl
 
-pub read-step-unique : (s : List ℕ) (at : ℕ) (r q : StepLine) → StepAt s at r → StepAt s at q → r ≡ q
+pub read-step-unique : (s : List ℕ) (at : ℕ) (r q : StepLine) → ReadAt s at r → ReadAt s at q → r ≡ q
 read-step-unique s at r q a b = one s r q (a .1) (b .1) (a .0 ∙ sym (b .0))

@@ -9,11 +9,13 @@ use lib.Dec.{eqb}
 use lib.IntN.{ℤ, pos, negsuc, natAbs}
 use lib.ListN.{length, take, length-append, length-take}
 use Rattle.text.specs.declared.Line as declared
-use Rattle.text.specs.Sizes.{mostValues, longestNumber, longestLine}
+use Rattle.text.specs.Sizes.{mostValues, threeDigits, longestNumber, longestLine}
 use Rattle.text.specs.Text.{digits, noNumber, signedText, endOf, joined, lineText}
 use Rattle.text.specs.Line.{keyOf, textOf}
-use Rattle.text.specs.Lines.{Line, lineTextOf, linesText}
+use Rattle.text.specs.Lines.{Line, lineTextOf, linesText, countLine}
+use Rattle.text.specs.Keys as key
 use Rattle.text.specs.KeyTable.{key-most}
+use Rattle.text.specs.Answers.{answerLine, refusalText}
 use Rattle.laws.specs.Tests.{by-test}
 use Rattle.text.specs.Decimal.{limit, digits-length, digits-most}
 
@@ -50,6 +52,21 @@ pub line-most : (m : ℕ) (key : List ℕ) (vs : List ℤ) → Within m vs → l
 unfolding lineText
 line-most m key vs w = let a = joined-most m vs w in let b = length-append key (joined vs) in omega arith
 
+-- ---- numbers of at most three digits
+
+-- such a number and the byte after it
+abbrev pub numberMost : ℕ
+numberMost = 3 + 1
+
+pub number-most : (n : ℕ) → n ≤ threeDigits → length (signedText (pos n)) ≤ 3
+number-most n h = natural-most 2 n (omega arith)
+
+-- a line with one of them
+pub one-most : (key : List ℕ) (n : ℕ) → n ≤ threeDigits → length (lineTextOf (countLine key n)) ≤ length key + numberMost
+one-most key n h = omega (arith, line-most 3 key (pos n ∷ []) (number-most n h, tt))
+
+-- ---- more lines
+
 -- a line and more lines
 pub cons-length : (l : Line) (ls : List Line) → length (linesText (l ∷ ls)) ≡ length (lineTextOf l) + length (linesText ls)
 unfolding linesText
@@ -59,14 +76,22 @@ pub nil-length : length (linesText []) ≡ 0
 unfolding linesText
 nil-length = refl
 
+-- the line `answer=` alone
+pub answer-most : (n : ℕ) → n ≤ threeDigits → length (refusalText n) ≤ length key.answerKey + numberMost
+answer-most n h =
+    let c = cons-length (answerLine n) [] in
+    let z = nil-length in
+    let b = one-most key.answerKey n h in
+    omega arith
+
 -- ---- whichever the line is
 
-number-most : (z : ℤ) → length (signedText z) ≤ longestNumber
-number-most z = let a = digits-length (natAbs z) in let b = sign-most z in omega arith
+integer-most : (z : ℤ) → length (signedText z) ≤ longestNumber
+integer-most z = let a = digits-length (natAbs z) in let b = sign-most z in omega arith
 
 numbers-most : (vs : List ℤ) → Within longestNumber vs
 numbers-most [] = tt
-numbers-most (v ∷ vs) = (number-most v, numbers-most vs)
+numbers-most (v ∷ vs) = (integer-most v, numbers-most vs)
 
 -- a line by the number of its key
 pub text-most : (l : declared.Line) → length (l .values) ≤ mostValues → length (textOf l) ≤ longestLine

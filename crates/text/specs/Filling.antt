@@ -2,7 +2,7 @@
 -- of a sheet and those of a plan.
 -- Assumes nothing.
 use mathlib.Core.Path.{_≡_, refl, sym, ap, _∙_}
-use mathlib.Core.List.{List, [], _∷_, _++_, append-assoc}
+use mathlib.Core.List.{List, [], _∷_, _++_, append-assoc, append-nil}
 use Prim.Native.Nat.{ℕ, _+_, _*_, _-_, _≤_, _<_}
 use native.Mathlib.Omega.{arith}
 use native.Mathlib.Numerals.{add-one}
@@ -18,6 +18,10 @@ pub lines-append : (xs ys : List Line) → linesText (xs ++ ys) ≡ linesText xs
 unfolding linesText
 lines-append [] ys = refl
 lines-append (x ∷ xs) ys = ap (λ (l : List ℕ). lineTextOf x ++ l) (lines-append xs ys) ∙ sym (append-assoc (lineTextOf x) (linesText xs) (linesText ys))
+
+pub one-line : (l : Line) → linesText (l ∷ []) ≡ lineTextOf l
+unfolding linesText
+one-line l = append-nil (lineTextOf l)
 
 module _ (ls : List Line) (i : ℕ) where
   -- the lines from the place i on

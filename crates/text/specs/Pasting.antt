@@ -23,7 +23,7 @@ pasted-size at text old h =
     let d = length-drop at old in
     length-append (take at old) (over text (drop at old)) ∙ omega (arith, length-take-le at old (omega arith), length-over text (drop at old) (omega arith))
 
-pub pasted-made : {at end : ℕ} {text old new : List ℕ} → at + length text ≤ length old → end ≡ at + length text → new ≡ pasted at text old → Pasted at text old new end
+pasted-made : {at end : ℕ} {text old new : List ℕ} → at + length text ≤ length old → end ≡ at + length text → new ≡ pasted at text old → Pasted at text old new end
 pasted-made {at} {text = text} {old} h e f = record { ends = e; buffer = f; size = ap length f ∙ pasted-size at text old h }
 
 pub pasted-none : (old : List ℕ) (at : ℕ) → at ≤ length old → Pasted at [] old old at

@@ -8,8 +8,9 @@ use Rattle.text.specs.Line.{keyOf, textOf, countOf}
 use Rattle.text.specs.Keys.{answerKey}
 use Rattle.text.specs.Joined.{one-number}
 use Rattle.text.specs.Writing.{fitting}
-use Rattle.text.specs.Answers.{refusalText}
-use Rattle.report.specs.Bounds.{answer-most, answer-text}
+use Rattle.text.specs.Answers.{answerLine, refusalText}
+use Rattle.text.specs.Filling.{one-line}
+use Rattle.text.specs.Bounds.{answer-most}
 use native.Mathlib.Omega.{arith}
 use borrow.Author.Needs.{needs}
 use Rattle.report.proofs.put_answer.Statement.{statement}
@@ -31,7 +32,7 @@ returns c =
     let n = s .args .answer in
     let old = s .args .out .now in
     let p = c .before .before .put-line .ensures in
-    let t : textOf (c .before .before .before .count-line .result) ≡ refusalText n = one-number answerKey n (omega (arith, s .pre .0)) (c .before .before .before .count-line .ensures) ∙ sym (answer-text n) in
+    let t : textOf (c .before .before .before .count-line .result) ≡ refusalText n = one-number answerKey n (omega (arith, s .pre .0)) (c .before .before .before .count-line .ensures) ∙ sym (one-line (answerLine n)) in
     let b = answer-most n (s .pre .0) in
     let h = s .pre .1 in
     let g = fitting (refusalText n) old (omega arith) in (

@@ -7,6 +7,7 @@ use Prim.Native.Nat.{_≤_}
 use lib.ListN.{length}
 use lib.Seq.{length-take-le}
 use Rattle.text.specs.Answers.{refusalText}
+use Rattle.text.specs.Bounds.{answer-most}
 use Rattle.text.specs.PutLaws.{put-as}
 use Rattle.sheet.specs.declared.Sheet.{Sheet}
 use Rattle.sheet.specs.Sheet.{InRange}
@@ -18,7 +19,6 @@ use Rattle.table_script.specs.declared.Step.{Step}
 use Rattle.table_script.specs.Script.{scriptOf, steps}
 use Rattle.table_script.specs.Ahead.{sound}
 use Rattle.table_command.specs.Prints.{TableText}
-use Rattle.table_command.specs.Widths.{refusal-short}
 use Rattle.table_command.specs.Small.{interval-small}
 use Rattle.table_command.specs.Whole.{listed-text, nothing-printed, printed}
 use borrow.Author.Needs.{needs}
@@ -79,7 +79,7 @@ returns-2 c =
     let s = r .before .before .before .before .before .before in
     let e = read-number r in
     let h : r .read .result .answer ≤ 999 = omega (arith, e, read-small (s .args .bytes .now)) in
-    put-as refl (printed (s .args .script .now) (all-steps (r .before) .1) (at-no (λ z. i .if2 .taken (e ∙ z)) (ap refusalText e))) (omega (arith, refusal-short (r .read .result .answer) h)) (w .0) (w .1)
+    put-as refl (printed (s .args .script .now) (all-steps (r .before) .1) (at-no (λ z. i .if2 .taken (e ∙ z)) (ap refusalText e))) (omega (arith, answer-most (r .read .result .answer) h)) (w .0) (w .1)
 
 asked-requires : tie.Need-asked-requires
 asked-requires c κs = search needs
@@ -102,7 +102,7 @@ returns-3 c =
     let h = interval-small (in-range-here e) (q .asked .ensures) in
     put-as refl (printed (s .args .script .now) (all .1) (at-yes (sym (read-number r) ∙ e .if2 .left)
     (subst (λ (x : Sheet). AtInterval refusalText x (s .args .interval) (TableText x (s .args .interval) (all .0)) (refusalText (q .asked .result))) (read-sheet r)
-    (refuses refusalText (q .asked .ensures) (i .if3 .taken) refl)))) (omega (arith, refusal-short (q .asked .result) h)) (w .0) (w .1)
+    (refuses refusalText (q .asked .ensures) (i .if3 .taken) refl)))) (omega (arith, answer-most (q .asked .result) h)) (w .0) (w .1)
 
 slice-aggregate-put-table : tie.Need-slice-aggregate-put-table
 slice-aggregate-put-table c = search needs

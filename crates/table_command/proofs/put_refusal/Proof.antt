@@ -11,9 +11,10 @@ use Rattle.text.specs.Keys.{answerKey}
 use Rattle.text.specs.Line.{keyOf, textOf, writtenOf}
 use Rattle.text.specs.Text.{over, bufferOf}
 use Rattle.text.specs.Answers.{answerLine, refusalText}
+use Rattle.text.specs.Bounds.{answer-most}
+use Rattle.text.specs.Filling.{one-line}
 use Rattle.text.specs.Joined.{one-number}
 use Rattle.text.specs.Writing.{fitting, length-over}
-use Rattle.table_command.specs.Widths.{count-most, one-line}
 use borrow.Author.Needs.{needs}
 use Rattle.table_command.proofs.put_refusal.Statement.{statement}
 use Rattle.table_command.proofs.put_refusal.Tie as tie
@@ -28,7 +29,7 @@ line-text c =
 line-room : (c : tie.After-count-line) → length (textOf (c .count-line .result)) ≤ 11
 line-room c =
     let s = c .before .before .before in
-    omega (arith, ap length (line-text c), ap length (one-line (answerLine (s .args .answer))), count-most answerKey (s .args .answer) (s .pre))
+    omega (arith, ap length (line-text c), answer-most (s .args .answer) (s .pre))
 
 -- it stands at the front of the array, counted whole
 line-put : (c : tie.After-put-line) → (c .put-line .result ≡ length (textOf (c .before .count-line .result))) × (c .put-line .last .0 ≡ over (textOf (c .before .count-line .result)) (replicate 11 0))

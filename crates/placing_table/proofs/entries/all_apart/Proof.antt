@@ -1,5 +1,5 @@
--- `placing_table::all_apart` meets its contract. The invariant: the operations below i are apart; past the table nothing is
--- placed. Assumes nothing.
+-- `placing_table::all_apart` meets its contract. The invariant: the operations below i are apart; past the table nothing
+-- is placed. Assumes nothing.
 use borrow.Author.Needs.{needs}
 use Prim.Native.Nat.{ℕ, _≤_, _<_, _-_}
 use native.Mathlib.Omega.{arith}

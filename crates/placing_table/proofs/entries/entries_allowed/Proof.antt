@@ -1,5 +1,5 @@
--- `placing_table::entries_allowed` meets its contract. The invariant: the entries below i are allowed; past the table nothing
--- is placed. Assumes nothing.
+-- `placing_table::entries_allowed` meets its contract. The invariant: the entries below i are allowed; past the table
+-- nothing is placed. Assumes nothing.
 use borrow.Author.Needs.{needs}
 use Prim.Native.Nat.{ℕ, _≤_, _<_, _-_}
 use native.Mathlib.Omega.{arith}

@@ -1,5 +1,5 @@
--- `placing_table::untaken` meets its contract. The invariant: no operation below j takes the instance; past the table nothing
--- is placed. Assumes nothing.
+-- `placing_table::untaken` meets its contract. The invariant: no operation below j takes the instance; past the table
+-- nothing is placed. Assumes nothing.
 use borrow.Author.Needs.{needs}
 use Prim.Native.Nat.{ℕ, _≤_, _<_, _-_}
 use native.Mathlib.Omega.{arith}

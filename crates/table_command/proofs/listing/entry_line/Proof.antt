@@ -5,11 +5,11 @@ use mathlib.Core.List.{[], _∷_}
 use Prim.Native.Nat.{ℕ}
 use native.Mathlib.Omega.{arith}
 use lib.IntN.{pos}
+use Rattle.laws.specs.Count.{bit-small}
 use Rattle.laws.specs.Z.{cast-kept}
 use Rattle.text.specs.Keys.{entryKey}
 use Rattle.text.specs.Line.{keyOf}
 use Rattle.text.specs.Text.{lineText}
-use Rattle.table_command.specs.Widths.{flag-most}
 use borrow.Author.Needs.{needs}
 use Rattle.table_command.proofs.listing.entry_line.Statement.{statement}
 use Rattle.table_command.proofs.listing.entry_line.Tie as tie
@@ -18,7 +18,7 @@ flag-requires : tie.Need-flag-requires
 flag-requires c κs = search needs
 
 cast-line-of : tie.Need-cast-line-of
-cast-line-of c = omega (arith, c .flag .ensures, flag-most (c .before .args .p .placed))
+cast-line-of c = omega (arith, c .flag .ensures, bit-small (c .before .args .p .placed))
 
 cast-line-of-2 : tie.Need-cast-line-of-2
 cast-line-of-2 c = search needs
@@ -35,7 +35,7 @@ returns c =
     let s = c .before .before .before .before in
     let p = s .args .p in
     let f = c .before .before .before .flag in
-    let x = cast-kept (f .result) (omega (arith, f .ensures, flag-most (p .placed))) in
+    let x = cast-kept (f .result) (omega (arith, f .ensures, bit-small (p .placed))) in
     let y = cast-kept (p .start) (omega (arith, s .pre .start)) in
     let z = cast-kept (p .instance) (omega (arith, s .pre .instance)) in
     c .line-of .ensures .1

@@ -2,7 +2,7 @@
 -- Assumes nothing.
 use mathlib.Core.Path.{sym, subst}
 use Rattle.table_script.specs.declared.Step.{Step}
-use Rattle.table_command.specs.Prints.{StepAt, offered, booked, placed}
+use Rattle.table_command.specs.Prints.{besideTable, StepAt, offered, booked, placed}
 use borrow.Author.Needs.{needs}
 use Rattle.table_command.proofs.steps.take_step.Statement.{statement}
 use Rattle.table_command.proofs.steps.take_step.Tie as tie
@@ -28,8 +28,7 @@ place-requires c κs = search needs
 returns : tie.Need-returns
 returns c =
     let a = c .before .before .before .before .before .args in
-    let o = c .before .make-offer .result in
-    subst (λ (k : Step). StepAt (a .sheet) (a .interval) (a .table) k (record { answer = o .answer; instance = o .offer .instance; table = a .table }))
+    subst (λ (k : Step). StepAt (a .sheet) (a .interval) (a .table) k (besideTable (a .table) (c .before .make-offer .result)))
     (sym (c .before .before .before .step .given .1)) (offered (c .before .make-offer .ensures))
 
 returns-2 : tie.Need-returns-2
