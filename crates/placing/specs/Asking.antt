@@ -41,15 +41,6 @@ pub data Split {A : Type 0} (refused : ℕ → A) (s : Sheet) (L : ℕ) (table :
   went : Placeable s L table op start → Then a → Split refused s L table op start Then a
 
 module _ {s : Sheet} {L : ℕ} {table : Table} {op start : ℕ} where
-  pub ready : {n : ℕ} → AskedToPlace s L table op start n → n ≡ 0 → Placeable s L table op start
-  ready (at-no x e) z = absurd (sheet-out s x (sym e ∙ z))
-  ready (at-yes _ (at-no _ e)) z = absurd (omega (arith, e, z))
-  ready (at-yes _ (at-yes _ (at-no _ e))) z = absurd (omega (arith, e, z))
-  ready (at-yes _ (at-yes _ (at-yes _ (at-no _ e)))) z = absurd (omega (arith, e, z))
-  ready (at-yes _ (at-yes _ (at-yes _ (at-yes _ (at-no _ e))))) z = absurd (omega (arith, e, z))
-  ready (at-yes r (at-yes i (at-yes c (at-yes t (at-yes f _))))) z =
-      record { accepted = record { sheet = r; interval = i }; consistent = c; target = t; unplaced = f }
-
   pub refuses-placing : {A : Type 0} (refused : ℕ → A) {Then : A → Type 0} {a : A} {n : ℕ}
       → AskedToPlace s L table op start n → (n ≡ 0 → ⊥) → a ≡ refused n → ToPlace refused s L table op start Then a
   refuses-placing refused (at-no x e) z q = at-no x (q ∙ ap refused e)
@@ -79,6 +70,14 @@ module _ {s : Sheet} {L : ℕ} {table : Table} {op start : ℕ} where
       stopped (record { asked = at-yes r (at-yes i (at-yes c (at-yes t (at-no x refl)))); nonzero = λ z. omega arith }) e
   split refused (at-yes r (at-yes i (at-yes c (at-yes t (at-yes f y))))) =
       went (record { accepted = record { sheet = r; interval = i }; consistent = c; target = t; unplaced = f }) y
+
+  -- the number 0 tells that all got a yes
+  pub ready : {n : ℕ} → AskedToPlace s L table op start n → n ≡ 0 → Placeable s L table op start
+  ready {n} a z = at (split (λ k. k) a)
+    where
+      at : Split (λ k. k) s L table op start (Is 0) n → Placeable s L table op start
+      at (stopped r e) = absurd (r .nonzero (sym e ∙ z))
+      at (went y _) = y
 
   -- where all got a yes, what follows answers
   pub then-placing : {A : Type 0} (refused : ℕ → A) {Then : A → Type 0} {a : A} → Placeable s L table op start → ToPlace refused s L table op start Then a → Then a
