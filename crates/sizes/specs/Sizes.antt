@@ -17,6 +17,10 @@ mostTypes = 8
 abbrev pub mostInstances : ℕ
 mostInstances = 8
 
+-- the greatest K, for contracts alone
+abbrev pub mostBusy : ℕ
+mostBusy = 32
+
 -- the greatest H
 abbrev pub mostStarts : ℕ
 mostStarts = 128
