@@ -52,13 +52,13 @@ opsKind = numberKind key.opsKey range.operations
 abbrev pub edgesKind : Kind ℕ
 edgesKind = numberKind key.edgesKey range.edges
 
--- `type=A,D`
+-- `type=A,D,K`
 abbrev pub typeKind : Kind ResourceType
 typeKind = record {
   key = key.typeKey;
-  count = 2;
+  count = 3;
   minus = noMinus;
-  make = λ vs. record { instances = natAt vs 0; latency = natAt vs 1 };
+  make = λ vs. record { instances = natAt vs 0; latency = natAt vs 1; busy = natAt vs 2 };
   values = λ t. typeLine t .values;
   answer = typeAnswer;
 }

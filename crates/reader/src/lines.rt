@@ -61,12 +61,12 @@ pub struct TypeRead {
     pub next: usize,
 }
 
-// The line `type=A,D`.
+// The line `type=A,D,K`.
 pub fn read_type(s: &[u8], at: usize) -> TypeRead
     requires { ⌜ at ≤ length (now s) ⌝ }
     ensures { λ r. ⌜ Reads (now (s .entry)) (r .answer) (r .entry) (r .next) (lineFrom typeKind (drop at (now (s .entry)))) ⌝ }
 {
-    let line = scan::read_line(s, at, b"type=", 2, NO_MINUS);
+    let line = scan::read_line(s, at, b"type=", 3, NO_MINUS);
     if !line.ok {
         return TypeRead {
             answer: MALFORMED,
@@ -75,9 +75,13 @@ pub fn read_type(s: &[u8], at: usize) -> TypeRead
         };
     }
     let values = line.values;
+    let instances = values[0] as usize;
+    let latency = values[1] as usize;
+    let busy = values[2] as usize;
     let entry = ResourceType {
-        instances: values[0] as usize,
-        latency: values[1] as usize,
+        instances,
+        latency,
+        busy,
     };
     let answer = sheet::type_answer(entry);
     if answer != 0 {

@@ -45,18 +45,22 @@ module _ (key : List ℕ) (field : ℕ) where
     writable = λ n e. (inside-short (number-judged field n .accepted e), refl, tt);
   }
 
-type-forth : (vs : List ℤ) → length vs ≡ 2 → Writable noMinus 0 vs → typeKind .values (typeKind .make vs) ≡ vs
+type-forth : (vs : List ℤ) → length vs ≡ 3 → Writable noMinus 0 vs → typeKind .values (typeKind .make vs) ≡ vs
 type-forth [] e w = absurd (omega arith)
 type-forth (a ∷ []) e w = absurd (omega arith)
-type-forth (a ∷ b ∷ []) e w = λ i. sym (plain-nat a (w .1)) i ∷ sym (plain-nat b (w .2 .1)) i ∷ []
-type-forth (a ∷ b ∷ x ∷ vs) e w = absurd (omega arith)
+type-forth (a ∷ b ∷ []) e w = absurd (omega arith)
+type-forth (a ∷ b ∷ c ∷ []) e w =
+    λ i. sym (plain-nat a (w .1)) i ∷ sym (plain-nat b (w .2 .1)) i ∷ sym (plain-nat c (w .2 .2 .1)) i ∷ []
+type-forth (a ∷ b ∷ c ∷ x ∷ vs) e w = absurd (omega arith)
 
 pub type-lawful : Lawful typeKind
 type-lawful = record {
   size = λ t. refl;
   back = λ t. refl;
   forth = type-forth;
-  writable = λ t e. let x = type-judged t .accepted e in (inside-short (x .instances), refl, (inside-short (x .latency), refl, tt));
+  writable = λ t e.
+      let x = type-judged t .accepted e in
+      (inside-short (x .instances), refl, (inside-short (x .latency), refl, (inside-short (x .busy), refl, tt)));
 }
 
 module _ (types horizon : ℕ) (few : types ≤ fourDigits) (near : horizon ≤ fourDigits) where

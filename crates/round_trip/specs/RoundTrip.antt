@@ -100,7 +100,7 @@ module _ {horizon cap r : ℕ} {types : List ResourceType} {n : ℕ} {ops : List
       let a₁ : length (entryText horizonKind horizon) ≤ 14 = entry-length horizonKind (number-lawful key.horizonKey range.horizon) horizon (g .horizon-in) in
       let a₂ : length (entryText capKind cap) ≤ 10 = entry-length capKind (number-lawful key.capKey range.cap) cap (g .cap-in) in
       let a₃ : length (entryText typesKind r) ≤ 12 = entry-length typesKind (number-lawful key.typesKey range.types) r (g .types-in) in
-      let a₄ : length (entriesText typeKind types) ≤ 17 * length types = entries-length typeKind type-lawful types (g .each-type) in
+      let a₄ : length (entriesText typeKind types) ≤ 23 * length types = entries-length typeKind type-lawful types (g .each-type) in
       let a₅ : length (entryText opsKind n) ≤ 10 = entry-length opsKind (number-lawful key.opsKey range.operations) n (g .ops-in) in
       let a₆ : length (entriesText (opKind r horizon) ops) ≤ 21 * length ops = entries-length (opKind r horizon) (ops-lawful r horizon (g .types-in) (g .horizon-in)) ops (g .each-op) in
       let a₇ : length (entryText edgesKind m) ≤ 12 = entry-length edgesKind (number-lawful key.edgesKey range.edges) m (g .edges-in) in

@@ -31,7 +31,7 @@ firstOf (suc n) f = first (firstOf n f) (f n)
 unfoldable pub numberAnswer : ℕ → ℕ → ℕ
 numberAnswer field n = ask (inside-decided field (pos n)) 3 0
 
--- `type=A,D`
+-- `type=A,D,K`
 unfoldable pub typeAnswer : ResourceType → ℕ
 typeAnswer t = ask (type-decided t) 3 0
 

@@ -46,8 +46,9 @@ inside-decided field z =
 -- question 3 of the line of a type
 abbrev pub type-decided : (t : ResourceType) → Dec (TypeInRange t)
 type-decided t =
-    like (λ x. record { instances = x .0; latency = x .1 }) (λ x. (x .instances, x .latency))
-    (both (inside-decided range.instances (pos (t .instances))) (inside-decided range.latency (pos (t .latency))))
+    like (λ x. record { instances = x .0; latency = x .1 .0; busy = x .1 .1 }) (λ x. (x .instances, (x .latency, x .busy)))
+    (both (inside-decided range.instances (pos (t .instances)))
+    (both (inside-decided range.latency (pos (t .latency))) (inside-decided range.busy (pos (t .busy)))))
 
 -- question 3 of the line of an operation
 abbrev pub op-decided : (types horizon : ℕ) (o : Operation) → Dec (OpInRange types horizon o)

@@ -23,7 +23,14 @@ fn type_line(t: ResourceType) -> Line
     requires { ⌜ TypeInRange t ⌝ }
     ensures { λ r. ⌜ textOf r ≡ lineTextOf (typeLine t) ⌝ }
 {
-    text::line_of(text::TYPE, 2, t.instances as i32, t.latency as i32, 0, 0)
+    text::line_of(
+        text::TYPE,
+        3,
+        t.instances as i32,
+        t.latency as i32,
+        t.busy as i32,
+        0,
+    )
 }
 
 fn op_line(o: Operation) -> Line
