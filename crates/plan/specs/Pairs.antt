@@ -1,6 +1,7 @@
 -- Rivals are rivals both ways, and so is an overlap. Assumes nothing.
 use mathlib.Core.Path.{sym, subst}
 use Prim.Native.Nat.{ℕ, _<_}
+use Rattle.held_slots.specs.HeldLaws.{meet-back}
 use Rattle.sheet.specs.declared.Sheet.{Sheet}
 use Rattle.sheet.specs.Sheet.{typeAt}
 use Rattle.plan.specs.Rules.{Rivals, Overlap}
@@ -13,4 +14,4 @@ rivals-back {s} r = record {
 }
 
 pub overlap-back : (s : Sheet) (L i t j t' : ℕ) → Overlap s L i t j t' → Overlap s L j t' i t
-overlap-back s L i t j t' e = sym e
+overlap-back s L i t j t' o = meet-back o

@@ -90,9 +90,18 @@ pub fn slot_of(interval: usize, start: usize) -> usize
     start % interval
 }
 
-// Whether operation i at the start t and operation j at the start u may not share an instance.
+// The slots that an operation holds its instance; past the array of types they are 0.
+fn busy_of(sheet: Sheet, op: usize) -> usize
+    ensures { λ r. ⌜ r ≡ typeOf sheet op .busy ⌝ }
+{
+    let found = type_of(sheet, op);
+    found.busy
+}
+
+// Whether operation i at the start t and operation j at the start u hold a slot in common, so that they may not share
+// an instance.
 pub fn overlap(sheet: Sheet, interval: usize, i: usize, t: usize, j: usize, u: usize) -> bool
     ensures { λ r. ⌜ Says (Overlap sheet interval i t j u) r ⌝ }
 {
-    slot_of(interval, t) == slot_of(interval, u)
+    held_slots::meet(interval, busy_of(sheet, i), busy_of(sheet, j), t, u)
 }

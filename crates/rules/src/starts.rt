@@ -29,11 +29,15 @@ fn in_window(operation: Operation, t: usize) -> bool
     operation.lo <= t && t <= operation.hi
 }
 
-// Whether an instance of this type may be held from the start t on: always, in one slot alone.
+// Whether an instance of this type may be held from the start t on: K is at most the interval if the type is limited,
+// as an operation would else meet itself.
 fn may_hold(kind: ResourceType, interval: usize, t: usize) -> bool
     ensures { λ r. ⌜ Says (MayHold kind interval t) r ⌝ }
 {
-    true
+    if kind.instances == 0 {
+        return true;
+    }
+    kind.busy <= interval
 }
 
 // Whether an operation may hold its instance from the start t on.

@@ -1,22 +1,29 @@
--- `rules::overlap` meets its contract: one slot.
+-- `rules::overlap` meets its contract: the slots that each of the two holds meet.
 -- Assumes nothing.
-use mathlib.Core.Path.{sym, _∙_}
-use Rattle.laws.specs.Tests.{last, eq-says}
+use mathlib.Core.Path.{subst}
+use Prim.Native.Nat.{ℕ}
+use Rattle.laws.specs.Says.{Says}
+use Rattle.held_slots.specs.Held.{Meet}
+use Rattle.sheet.specs.Sheet.{typeOf}
 use borrow.Author.Needs.{needs}
 use Rattle.rules.proofs.overlap.Statement.{statement}
 use Rattle.rules.proofs.overlap.Tie as tie
 
-slot-of-requires : tie.Need-slot-of-requires
-slot-of-requires c κs = search needs
+busy-of-requires : tie.Need-busy-of-requires
+busy-of-requires c κs = search needs
 
-slot-of-requires-2 : tie.Need-slot-of-requires-2
-slot-of-requires-2 c κs = search needs
+busy-of-requires-2 : tie.Need-busy-of-requires-2
+busy-of-requires-2 c κs = search needs
+
+meet-requires : tie.Need-meet-requires
+meet-requires c κs = search needs
 
 returns : tie.Need-returns
 returns c =
-    last (eq-says (c .before .slot-of .result) (c .slot-of2 .result))
-    (λ e. sym (c .before .slot-of .ensures) ∙ e ∙ c .slot-of2 .ensures)
-    (λ e. c .before .slot-of .ensures ∙ e ∙ sym (c .slot-of2 .ensures))
+    let a = c .before .before .before .args in
+    let k = c .before .busy-of2 in
+    subst (λ (m : ℕ). Says (Meet (a .interval) m (typeOf (a .sheet) (a .j) .busy) (a .t) (a .u)) (c .meet .result)) (c .before .before .busy-of .ensures)
+    (subst (λ (m : ℕ). Says (Meet (a .interval) (c .before .before .busy-of .result) m (a .t) (a .u)) (c .meet .result)) (k .ensures) (c .meet .ensures))
 
 pub overlap-spec : {M : Type 1} → statement M
-overlap-spec = tie.close (tie.spec slot-of-requires slot-of-requires-2 returns)
+overlap-spec = tie.close (tie.spec busy-of-requires busy-of-requires-2 meet-requires returns)
