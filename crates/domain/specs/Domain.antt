@@ -1,11 +1,12 @@
--- Domains: row i has a flag for each start of operation i, whether it is still allowed. A vector of starts is a function of the operation.
--- What the row functions, a narrowing rule and a search answer. Assumes nothing.
+-- Domains: row i has a flag for each start of operation i, whether it is still allowed. A vector of starts is a
+-- function of the operation. What the row functions, a narrowing rule and a search answer.
 use mathlib.Core.Path.{_≡_}
 use mathlib.Core.Bool.{Bool, true, false}
 use mathlib.Core.Logic.{_⊎_, _≢_}
 use mathlib.Core.List.{List, []}
 use Prim.Native.Nat.{ℕ, _%_, _≤_, _<_, _+_}
 use lib.ListN.{getD}
+use Rattle.sizes.specs.Sizes.{mostStarts}
 use Rattle.laws.specs.Entry.{vec}
 
 -- whether start t is allowed by a row
@@ -18,12 +19,12 @@ rowOf ok i = getD ok i []
 
 -- the starts t are allowed
 pub record In (n : ℕ) (ok : List (List Bool)) (t : ℕ → ℕ) : Type 0 where
-  pub small : (i : ℕ) → i < n → t i < 128
+  pub small : (i : ℕ) → i < n → t i < mostStarts
   pub allowed : (i : ℕ) → i < n → has (rowOf ok i) (t i) ≡ true
 
 -- each start that the row r allows is allowed by the row q
 pub record Part (r q : List Bool) : Type 0 where
-  pub part : (t : ℕ) → t < 128 → has r t ≡ true → has q t ≡ true
+  pub part : (t : ℕ) → t < mostStarts → has r t ≡ true → has q t ≡ true
 
 -- each start that the domain a allows is allowed by the domain b
 pub record Within (n : ℕ) (a b : List (List Bool)) : Type 0 where
@@ -75,34 +76,34 @@ pub record NextClass (s m r : ℕ) : Type 0 where
 
 -- the starts of q in the class s modulo m
 pub record OnlyClass (q : List Bool) (s m : ℕ) (r : List Bool) : Type 0 where
-  pub in-class : (t : ℕ) → t < 128 → t % m ≡ s → has q t ≡ true → has r t ≡ true
-  pub of-class : (t : ℕ) → t < 128 → has r t ≡ true → t % m ≡ s
+  pub in-class : (t : ℕ) → t < mostStarts → t % m ≡ s → has q t ≡ true → has r t ≡ true
+  pub of-class : (t : ℕ) → t < mostStarts → has r t ≡ true → t % m ≡ s
   pub was : Part r q
 
 -- the starts of q in the other classes
 pub record WithoutClass (q : List Bool) (s m : ℕ) (r : List Bool) : Type 0 where
-  pub other : (t : ℕ) → t < 128 → t % m ≢ s → has q t ≡ true → has r t ≡ true
-  pub gone : (t : ℕ) → t < 128 → t % m ≡ s → has r t ≡ true → ⊥
+  pub other : (t : ℕ) → t < mostStarts → t % m ≢ s → has q t ≡ true → has r t ≡ true
+  pub gone : (t : ℕ) → t < mostStarts → t % m ≡ s → has r t ≡ true → ⊥
   pub was : Part r q
 
 -- the starts of q below x
 pub record Below (q : List Bool) (x : ℕ) (r : List Bool) : Type 0 where
-  pub low : (t : ℕ) → t < 128 → t < x → has q t ≡ true → has r t ≡ true
-  pub high : (t : ℕ) → t < 128 → x ≤ t → has r t ≡ true → ⊥
+  pub low : (t : ℕ) → t < mostStarts → t < x → has q t ≡ true → has r t ≡ true
+  pub high : (t : ℕ) → t < mostStarts → x ≤ t → has r t ≡ true → ⊥
   pub was : Part r q
 
 -- the start x alone
 pub record Only (x : ℕ) (r : List Bool) : Type 0 where
   pub here : has r x ≡ true
-  pub other : (t : ℕ) → t < 128 → has r t ≡ true → t ≡ x
+  pub other : (t : ℕ) → t < mostStarts → has r t ≡ true → t ≡ x
 
--- the least start of a row, or 128
+-- the least start of a row, or `mostStarts`
 pub record Least (q : List Bool) (r : ℕ) : Type 0 where
-  pub within : r ≤ 128
-  pub here : r < 128 → has q r ≡ true
+  pub within : r ≤ mostStarts
+  pub here : r < mostStarts → has q r ≡ true
   pub before : (t : ℕ) → t < r → has q t ≡ true → ⊥
 
 -- two starts of different classes, or only one class, that of x
 pub record Other (q : List Bool) (x m : ℕ) (r : Bool) : Type 0 where
-  pub yes : r ≡ true → (t : ℕ) × (t < 128) × (has q t ≡ true) × (t % m ≢ x % m)
-  pub no : r ≡ false → (t : ℕ) → t < 128 → has q t ≡ true → t % m ≡ x % m
+  pub yes : r ≡ true → (t : ℕ) × (t < mostStarts) × (has q t ≡ true) × (t % m ≢ x % m)
+  pub no : r ≡ false → (t : ℕ) → t < mostStarts → has q t ≡ true → t % m ≡ x % m

@@ -1,4 +1,5 @@
--- The first plan in a domain, by lowering one operation's start after the other; for any rule `Plan` on vectors of starts. Assumes nothing.
+-- The first plan in a domain, by lowering one operation's start after the other; for any rule `Plan` on vectors of
+-- starts.
 use mathlib.Core.Path.{_≡_, sym, subst, _∙_}
 use mathlib.Core.Bool.{Bool, true, false}
 use mathlib.Core.Logic.{_⊎_, inl, inr, ⊎-elim, _≢_}
@@ -8,6 +9,7 @@ use native.Mathlib.Omega.{arith}
 use native.Mathlib.Decide.{ℕ-discrete, decLt}
 use lib.ListN.{set, length}
 use lib.Seq.{getD-set-same}
+use Rattle.sizes.specs.Sizes.{mostStarts}
 use Rattle.laws.specs.Entry.{vec}
 use Rattle.laws.specs.Z.{true-false}
 use Rattle.laws.specs.Store.{store}
@@ -28,7 +30,7 @@ pub record Lowered (Plan : (ℕ → ℕ) → Type 0) (n : ℕ) (d : List (List B
 pub record Lead (Plan : (ℕ → ℕ) → Type 0) (n : ℕ) (ok d : List (List Bool)) (i : ℕ) (x : List ℕ) : Type 0 where
   pub good : Good Plan n d x
   pub within : Within n d ok
-  pub pinned : (v : ℕ) → v < i → (s : ℕ) → s < 128 → has (rowOf d v) s ≡ true → s ≡ vec x v
+  pub pinned : (v : ℕ) → v < i → (s : ℕ) → s < mostStarts → has (rowOf d v) s ≡ true → s ≡ vec x v
   pub rest : (t : ℕ → ℕ) → Plan t → In n ok t → (In n d t × ((v : ℕ) → v < i → vec x v ≡ t v)) ⊎ ((k : ℕ) × (k < i) × (vec x k < t k) × ((v : ℕ) → v < k → vec x v ≡ t v))
 
 -- s has the smaller start at the first of n operations where they differ
@@ -38,7 +40,7 @@ Sooner n s t = (k : ℕ) × (k < n) × (s k < t k) × ((v : ℕ) → v < k → s
 -- d has one start for each of the first i operations, and a plan of ok outside d comes after everything in d
 pub record Ahead (Plan : (ℕ → ℕ) → Type 0) (n : ℕ) (ok d : List (List Bool)) (i : ℕ) : Type 0 where
   pub within : Within n d ok
-  pub single : (v : ℕ) → v < i → (s z : ℕ) → s < 128 → z < 128 → has (rowOf d v) s ≡ true → has (rowOf d v) z ≡ true → s ≡ z
+  pub single : (v : ℕ) → v < i → (s z : ℕ) → s < mostStarts → z < mostStarts → has (rowOf d v) s ≡ true → has (rowOf d v) z ≡ true → s ≡ z
   pub rest : (t : ℕ → ℕ) → Plan t → In n ok t → In n d t ⊎ ((u : ℕ → ℕ) → In n d u → Sooner n u t)
 
 -- the first plan, or no answer
@@ -96,7 +98,7 @@ module _ (Plan : (ℕ → ℕ) → Type 0) (n : ℕ) where
     lead-next = record {
       good = record { inside = in-set r l (w .good .inside) (o .here); plan = w .good .plan };
       within = within-trans (within-set l part) (z .within);
-      pinned = λ v q. store (λ k row. (s : ℕ) → s < 128 → has row s ≡ true → s ≡ vec y k) d i r [] l (o .other) v
+      pinned = λ v q. store (λ k row. (s : ℕ) → s < mostStarts → has row s ≡ true → s ≡ vec y k) d i r [] l (o .other) v
           (λ ne s h e. z .pinned v (omega arith) s h e ∙ sym (same v (omega arith)));
       rest = λ t p h. ⊎-elim (λ a. go t p a (ℕ-discrete (vec y i) (t i)))
           (λ k. inr (k .0, omega arith, omega (arith, same (k .0) (k .1), k .2), λ v q. same v (omega (arith, k .1)) ∙ k .3 v q)) (z .rest t p h);
@@ -133,7 +135,7 @@ module _ (Plan : (ℕ → ℕ) → Type 0) (n : ℕ) where
     rest = λ t p q. ⊎-elim (λ a. inl (k .kept t p a)) (λ f. inr (λ u w. f u (in-wider (k .within) w))) (h .rest t p q);
   }
 
-  module _ {ok d : List (List Bool)} {i x : ℕ} {r : List Bool} (l : i < length d) (m : i < n) (z : Ahead Plan n ok d i) (low : Least (rowOf d i) x) (small : x < 128) (o : Only x r) where
+  module _ {ok d : List (List Bool)} {i x : ℕ} {r : List Bool} (l : i < length d) (m : i < n) (z : Ahead Plan n ok d i) (low : Least (rowOf d i) x) (small : x < mostStarts) (o : Only x r) where
     pinned-part : Part r (rowOf d i)
     pinned-part = record { part = λ t h e. subst (λ (s : ℕ). has (rowOf d i) s ≡ true) (sym (o .other t h e)) (low .here small) }
 

@@ -1,4 +1,4 @@
--- Laws of the row functions. Assumes nothing.
+-- Laws of the row functions.
 use mathlib.Core.Path.{_≡_, sym, _∙_, ap}
 use mathlib.Core.Bool.{Bool, true, false}
 use mathlib.Core.Logic.{_≢_}
@@ -9,6 +9,7 @@ use native.Mathlib.Nat.{mod-add-mod, mod-eq-of-lt, mod-self}
 use native.Mathlib.Decide.{ℕ-discrete}
 use lib.ListN.{set, length}
 use lib.Seq.{getD-set-same, getD-set-other}
+use Rattle.sizes.specs.Sizes.{mostStarts}
 use Rattle.laws.specs.Z.{true-false}
 use Rattle.domain.specs.Domain.{has, Only, NextClass}
 
@@ -19,10 +20,10 @@ same-class a b h = pick (ℕ-discrete a b)
     pick (yes e) = e
     pick (no n) = absurd (h n)
 
-pub only-set : (l : List Bool) (x : ℕ) → ((k : ℕ) → k < 128 → has l k ≡ false) → x < length l → Only x (set l x true)
+pub only-set : (l : List Bool) (x : ℕ) → ((k : ℕ) → k < mostStarts → has l k ≡ false) → x < length l → Only x (set l x true)
 only-set l x none h = record { here = getD-set-same l x true false h; other = λ t m b. pick t m b (ℕ-discrete t x) }
   where
-    pick : (t : ℕ) → t < 128 → has (set l x true) t ≡ true → Dec (t ≡ x) → t ≡ x
+    pick : (t : ℕ) → t < mostStarts → has (set l x true) t ≡ true → Dec (t ≡ x) → t ≡ x
     pick t m b (yes e) = e
     pick t m b (no n) = true-false (sym b ∙ getD-set-other l x t true false n ∙ none t m)
 

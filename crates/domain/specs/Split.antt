@@ -1,4 +1,5 @@
--- The steps of a search that splits one operation's starts into classes, for any rule `Plan` on vectors of starts. The measure is the number of allowed starts. Assumes nothing.
+-- The steps of a search that splits one operation's starts into classes, for any rule `Plan` on vectors of starts. The
+-- measure is the number of allowed starts.
 use mathlib.Core.Path.{_≡_, sym, subst, _∙_}
 use mathlib.Core.Bool.{Bool, true, false}
 use mathlib.Core.Logic.{_≢_}
@@ -8,6 +9,7 @@ use native.Mathlib.Omega.{arith}
 use native.Mathlib.Decide.{ℕ-discrete}
 use lib.ListN.{set, length}
 use lib.Seq.{getD-set-same}
+use Rattle.sizes.specs.Sizes.{mostOperations, mostStarts}
 use Rattle.laws.specs.Entry.{vec}
 use Rattle.laws.specs.Z.{true-false}
 use Rattle.laws.specs.Store.{store}
@@ -16,7 +18,7 @@ use Rattle.domain.specs.Domain.{has, rowOf, In, Part, Within, Keeps, Sol
 
 -- the starts that a row allows
 pub count : List Bool → ℕ
-count q = total 128 (λ t. bit (has q t))
+count q = total mostStarts (λ t. bit (has q t))
 
 -- the starts that a domain allows
 pub size : ℕ → List (List Bool) → ℕ
@@ -24,17 +26,17 @@ size n ok = total n (λ i. count (rowOf ok i))
 
 pub count-le : {r q : List Bool} → Part r q → count r ≤ count q
 unfolding count
-count-le {r} {q} p = total-le 128 (λ t. bit (has r t)) (λ t. bit (has q t)) (λ t h. bit-le (has r t) (has q t) (p .part t h))
+count-le {r} {q} p = total-le mostStarts (λ t. bit (has r t)) (λ t. bit (has q t)) (λ t h. bit-le (has r t) (has q t) (p .part t h))
 
-pub count-lt : {r q : List Bool} → Part r q → (t : ℕ) → t < 128 → has q t ≡ true → (has r t ≡ true → ⊥) → count r < count q
+pub count-lt : {r q : List Bool} → Part r q → (t : ℕ) → t < mostStarts → has q t ≡ true → (has r t ≡ true → ⊥) → count r < count q
 unfolding count
-count-lt {r} {q} p t h y n = total-lt 128 (λ t. bit (has r t)) (λ t. bit (has q t)) t h (bit-lt (has r t) (has q t) n y) (λ t h. bit-le (has r t) (has q t) (p .part t h))
+count-lt {r} {q} p t h y n = total-lt mostStarts (λ t. bit (has r t)) (λ t. bit (has q t)) t h (bit-lt (has r t) (has q t) n y) (λ t h. bit-le (has r t) (has q t) (p .part t h))
 
 pub size-le : {n : ℕ} {a b : List (List Bool)} → Within n a b → size n a ≤ size n b
 unfolding size
 size-le {n} {a} {b} w = total-le n (λ i. count (rowOf a i)) (λ i. count (rowOf b i)) (λ i h. count-le (w .row i h))
 
-pub size-lt : {n : ℕ} {a b : List (List Bool)} → Within n a b → (i : ℕ) → i < n → (t : ℕ) → t < 128 → has (rowOf b i) t ≡ true → (has (rowOf a i) t ≡ true → ⊥) → size n a < size n b
+pub size-lt : {n : ℕ} {a b : List (List Bool)} → Within n a b → (i : ℕ) → i < n → (t : ℕ) → t < mostStarts → has (rowOf b i) t ≡ true → (has (rowOf a i) t ≡ true → ⊥) → size n a < size n b
 unfolding size
 size-lt {n} {a} {b} w i l t h y m = total-lt n (λ i. count (rowOf a i)) (λ i. count (rowOf b i)) i l (count-lt (w .row i l) t h y m) (λ i h. count-le (w .row i h))
 
@@ -92,8 +94,8 @@ pub record Splits (n : ℕ) (d : List (List Bool)) (i m : ℕ) : Type 0 where
   pub positive : 0 < m
   pub a : ℕ
   pub b : ℕ
-  pub a-in : a < 128
-  pub b-in : b < 128
+  pub a-in : a < mostStarts
+  pub b-in : b < mostStarts
   pub a-has : has (rowOf d i) a ≡ true
   pub b-has : has (rowOf d i) b ≡ true
   pub differ : a % m ≢ b % m
@@ -103,7 +105,7 @@ pub record Left (Plan : (ℕ → ℕ) → Type 0) (n : ℕ) (d : List (List Bool
   pub part : Part row (rowOf d i)
   pub left : (t : ℕ → ℕ) → Plan t → In n d t → has row (t i) ≡ true
 
-module _ (Plan : (ℕ → ℕ) → Type 0) (n : ℕ) {d : List (List Bool)} {i m : ℕ} (len : length d ≡ 24) (small : n ≤ 24) (sp : Splits n d i m) where
+module _ (Plan : (ℕ → ℕ) → Type 0) (n : ℕ) {d : List (List Bool)} {i m : ℕ} (len : length d ≡ mostOperations) (small : n ≤ mostOperations) (sp : Splits n d i m) where
   here : i < length d
   here = omega (arith, sp .op)
 
@@ -123,7 +125,7 @@ module _ (Plan : (ℕ → ℕ) → Type 0) (n : ℕ) {d : List (List Bool)} {i m
     pub child-less : size n (set d i r) < size n d
     child-less = pick (ℕ-discrete (sp .a % m) s)
       where
-        lost : (t : ℕ) → t < 128 → t % m ≢ s → has (rowOf (set d i r) i) t ≡ true → ⊥
+        lost : (t : ℕ) → t < mostStarts → t % m ≢ s → has (rowOf (set d i r) i) t ≡ true → ⊥
         lost t h ne y = ne (o .of-class t h (subst (λ (q : List Bool). has q t ≡ true) at-i y))
 
         pick : Dec (sp .a % m ≡ s) → size n (set d i r) < size n d
@@ -142,11 +144,11 @@ module _ (Plan : (ℕ → ℕ) → Type 0) (n : ℕ) {d : List (List Bool)} {i m
         pick t p h (no c) = w .other (t i) (h .small i (sp .op)) c (l .left t p h)
 
   -- no start of i is left
-  pub left-none : {row : List Bool} {u : ℕ} {x : List ℕ} → Left Plan n d i row → Least row u → u ≡ 128 → Solved Plan n d false x
+  pub left-none : {row : List Bool} {u : ℕ} {x : List ℕ} → Left Plan n d i row → Least row u → u ≡ mostStarts → Solved Plan n d false x
   left-none {row} {u} l z e = solved-none Plan n (λ t p h. z .before (t i) (omega (arith, h .small i (sp .op))) (l .left t p h))
 
 -- the classes that are left get fewer
-pub rest-less : {row : List Bool} {s m : ℕ} {q : List Bool} {u : ℕ} → WithoutClass row s m q → Least row u → u < 128 → u % m ≡ s → count q < count row
+pub rest-less : {row : List Bool} {s m : ℕ} {q : List Bool} {u : ℕ} → WithoutClass row s m q → Least row u → u < mostStarts → u % m ≡ s → count q < count row
 rest-less {u = u} w z h e = count-lt (w .was) u h (z .here h) (w .gone u h e)
 
 -- ---- at a leaf
@@ -156,13 +158,13 @@ pub record LeastStarts (n : ℕ) (d : List (List Bool)) (x : List ℕ) : Type 0 
   pub least : (i : ℕ) → i < n → Least (rowOf d i) (vec x i)
 
 module _ (Plan : (ℕ → ℕ) → Type 0) (n : ℕ) {d : List (List Bool)} {x : List ℕ} (z : LeastStarts n d x) where
-  pub low-in : ((i : ℕ) → i < n → vec x i < 128) → In n d (vec x)
+  pub low-in : ((i : ℕ) → i < n → vec x i < mostStarts) → In n d (vec x)
   low-in h = record { small = h; allowed = λ i l. z .least i l .here (h i l) }
 
   -- an operation with no start
-  pub bare-none : {y : List ℕ} → (i : ℕ) → i < n → vec x i ≡ 128 → Solved Plan n d false y
+  pub bare-none : {y : List ℕ} → (i : ℕ) → i < n → vec x i ≡ mostStarts → Solved Plan n d false y
   bare-none i l e = solved-none Plan n (λ t p h. z .least i l .before (t i) (omega (arith, h .small i l)) (h .allowed i l))
 
   -- each operation has one start, and those are no plan
-  pub pinned-none : {y : List ℕ} → ((s t : ℕ → ℕ) → ((i : ℕ) → i < n → s i ≡ t i) → Plan s → Plan t) → ((i : ℕ) → i < n → (t : ℕ) → t < 128 → has (rowOf d i) t ≡ true → t ≡ vec x i) → (Plan (vec x) → ⊥) → Solved Plan n d false y
+  pub pinned-none : {y : List ℕ} → ((s t : ℕ → ℕ) → ((i : ℕ) → i < n → s i ≡ t i) → Plan s → Plan t) → ((i : ℕ) → i < n → (t : ℕ) → t < mostStarts → has (rowOf d i) t ≡ true → t ≡ vec x i) → (Plan (vec x) → ⊥) → Solved Plan n d false y
   pinned-none local one bad = solved-none Plan n (λ t p h. bad (local t (vec x) (λ i l. one i l (t i) (h .small i l) (h .allowed i l)) p))

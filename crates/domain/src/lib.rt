@@ -1,117 +1,128 @@
-// Domains of the plan search: rows of the starts that are still allowed, one row for each operation.
-// An inner layer, a crate of its own for the check's time: `only_class`, `without_class` and `other_class` ask for a modulus above 0, `next_class` for a class below its modulus, `only` for a start below 128.
-// Callers: `support`, `windows`, `narrow` and `search`. Their modulus is the task's interval (above 0 by `TaskOk`) or 128, their classes are below it, and their starts are in a row.
+// Domains of the plan search: rows of the starts that are still allowed, one row for each operation. The class of a
+// start is what it leaves modulo some number: its slot, where that is the interval.
+// An inner layer, a crate of its own for the check's time: `only_class`, `without_class` and `other_class` ask for a
+// modulus above 0, `next_class` for a class below its modulus, `only` for a start below MOST_STARTS.
+// Callers: `support`, `saturation`, `seats`, `narrow` and `search`. Their modulus is the task's interval (above 0 by
+// `TaskOk`) or MOST_STARTS, their classes are below it, and their starts are in a row.
 ghost use mathlib.Core.Path.{_≡_};
 ghost use mathlib.Core.Bool.{true, false};
 ghost use Prim.Native.Nat.{ℕ, _+_, _≤_, _<_};
+ghost use Rattle.sizes.specs.Sizes.{mostStarts};
 ghost use Rattle.domain.specs.Domain.{Under, InClass, OffClass, OnlyClass, WithoutClass, NextClass, Below, Only, Least, Other};
+use sizes::MOST_OPERATIONS;
+use sizes::MOST_STARTS;
 
-// The class after class s modulo m: of the start after one of class s.
-pub fn next_class(s: usize, m: usize) -> usize
-    requires { ⌜ s < m ⌝ }
-    ensures { λ r. ⌜ NextClass s m r ⌝ }
+// Whether each start is still allowed: of one operation, of all.
+pub type Row = [bool; MOST_STARTS];
+
+pub type Domain = [Row; MOST_OPERATIONS];
+
+// The class of the start after one of this class.
+pub fn next_class(class: usize, modulus: usize) -> usize
+    requires { ⌜ class < modulus ⌝ }
+    ensures { λ r. ⌜ NextClass class modulus r ⌝ }
 {
-    let next = s + 1;
-    if next < m { next } else { 0 }
+    let next = class + 1;
+    if next < modulus { next } else { 0 }
 }
 
-// The flag b of start t, where the class of t is s.
-fn in_class(b: bool, t: usize, s: usize, m: usize) -> bool
-    requires { ⌜ 0 < m ⌝ }
-    ensures { λ r. ⌜ InClass b t s m r ⌝ }
+// The flag of start t, where t is of the class.
+fn in_class(flag: bool, t: usize, class: usize, modulus: usize) -> bool
+    requires { ⌜ 0 < modulus ⌝ }
+    ensures { λ r. ⌜ InClass flag t class modulus r ⌝ }
 {
-    if t % m == s { b } else { false }
+    if t % modulus == class { flag } else { false }
 }
 
-// The flag b of start t, where the class of t is not s.
-fn off_class(b: bool, t: usize, s: usize, m: usize) -> bool
-    requires { ⌜ 0 < m ⌝ }
-    ensures { λ r. ⌜ OffClass b t s m r ⌝ }
+// The flag of start t, where t is of another class.
+fn off_class(flag: bool, t: usize, class: usize, modulus: usize) -> bool
+    requires { ⌜ 0 < modulus ⌝ }
+    ensures { λ r. ⌜ OffClass flag t class modulus r ⌝ }
 {
-    if t % m == s { false } else { b }
+    if t % modulus == class { false } else { flag }
 }
 
-// The starts of the row whose class modulo m is s.
-pub fn only_class(row: [bool; 128], s: usize, m: usize) -> [bool; 128]
-    requires { ⌜ 0 < m ⌝ }
-    ensures { λ r. ⌜ OnlyClass row s m r ⌝ }
+// The starts of the row that are of the class.
+pub fn only_class(row: Row, class: usize, modulus: usize) -> Row
+    requires { ⌜ 0 < modulus ⌝ }
+    ensures { λ r. ⌜ OnlyClass row class modulus r ⌝ }
 {
     let mut out = row;
     let mut t: usize = 0;
-    while t < 128 {
-        out[t] = in_class(row[t], t, s, m);
+    while t < MOST_STARTS {
+        out[t] = in_class(row[t], t, class, modulus);
         t += 1;
     }
     out
 }
 
-// The starts of the row whose class modulo m is not s.
-pub fn without_class(row: [bool; 128], s: usize, m: usize) -> [bool; 128]
-    requires { ⌜ 0 < m ⌝ }
-    ensures { λ r. ⌜ WithoutClass row s m r ⌝ }
+// The starts of the row that are of another class.
+pub fn without_class(row: Row, class: usize, modulus: usize) -> Row
+    requires { ⌜ 0 < modulus ⌝ }
+    ensures { λ r. ⌜ WithoutClass row class modulus r ⌝ }
 {
     let mut out = row;
     let mut t: usize = 0;
-    while t < 128 {
-        out[t] = off_class(row[t], t, s, m);
+    while t < MOST_STARTS {
+        out[t] = off_class(row[t], t, class, modulus);
         t += 1;
     }
     out
 }
 
-// The flag b of start t, where t is below x.
-pub fn under(b: bool, t: usize, x: usize) -> bool
-    ensures { λ r. ⌜ Under b t x r ⌝ }
+// The flag of start t, where t is below the end.
+pub fn under(flag: bool, t: usize, end: usize) -> bool
+    ensures { λ r. ⌜ Under flag t end r ⌝ }
 {
-    if t < x { b } else { false }
+    if t < end { flag } else { false }
 }
 
-// The starts of the row below x.
-pub fn below(row: [bool; 128], x: usize) -> [bool; 128]
-    ensures { λ r. ⌜ Below row x r ⌝ }
+// The starts of the row below the end.
+pub fn below(row: Row, end: usize) -> Row
+    ensures { λ r. ⌜ Below row end r ⌝ }
 {
     let mut out = row;
     let mut t: usize = 0;
-    while t < 128 {
-        out[t] = under(row[t], t, x);
+    while t < MOST_STARTS {
+        out[t] = under(row[t], t, end);
         t += 1;
     }
     out
 }
 
-// The start x alone.
-pub fn only(x: usize) -> [bool; 128]
-    requires { ⌜ x < 128 ⌝ }
-    ensures { λ r. ⌜ Only x r ⌝ }
+// One start alone.
+pub fn only(start: usize) -> Row
+    requires { ⌜ start < mostStarts ⌝ }
+    ensures { λ r. ⌜ Only start r ⌝ }
 {
-    let mut out = [false; 128];
-    out[x] = true;
+    let mut out = [false; MOST_STARTS];
+    out[start] = true;
     out
 }
 
-// The least start of the row, or 128.
-pub fn least(row: [bool; 128]) -> usize
+// The least start of the row, or MOST_STARTS.
+pub fn least(row: Row) -> usize
     ensures { λ r. ⌜ Least row r ⌝ }
 {
     let mut t: usize = 0;
-    while t < 128 {
+    while t < MOST_STARTS {
         if row[t] {
             return t;
         }
         t += 1;
     }
-    128
+    MOST_STARTS
 }
 
-// Whether the row has a start of another class than x.
-pub fn other_class(row: [bool; 128], x: usize, m: usize) -> bool
-    requires { ⌜ 0 < m ⌝ }
-    ensures { λ r. ⌜ Other row x m r ⌝ }
+// Whether the row has a start of another class than this one.
+pub fn other_class(row: Row, start: usize, modulus: usize) -> bool
+    requires { ⌜ 0 < modulus ⌝ }
+    ensures { λ r. ⌜ Other row start modulus r ⌝ }
 {
-    let s = x % m;
+    let class = start % modulus;
     let mut t: usize = 0;
-    while t < 128 {
-        if off_class(row[t], t, s, m) {
+    while t < MOST_STARTS {
+        if off_class(row[t], t, class, modulus) {
             return true;
         }
         t += 1;

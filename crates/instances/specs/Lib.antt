@@ -1,3 +1,5 @@
-pub mod Lowest
+-- ---- definitions to believe
 pub mod Seats
+-- ---- laws
 pub mod SeatLaws
+pub mod SeatOrder

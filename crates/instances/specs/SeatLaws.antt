@@ -1,89 +1,139 @@
--- Laws of the lowest free instances: they are below the limit for a plan's starts, and rivals in one slot differ. Assumes nothing.
-use mathlib.Core.Path.{_≡_, refl, sym, _∙_}
+-- Laws of instances: they are the colours of the graph of those that clash; and a stretch of k slots has no more starts
+-- of a type than instances.
+use mathlib.Core.Path.{_≡_, refl, sym, ap, subst, _∙_}
 use mathlib.Core.Bool.{Bool, true, false, cond}
+use mathlib.Core.Logic.{_⊎_, inl, inr, ⊎-elim, _≢_}
 use mathlib.Core.List.{List}
-use Prim.Native.Nat.{ℕ, zero, suc, _+_, _%_, _≤_, _<_}
+use Prim.Native.Nat.{ℕ, _+_, _%_, _≤_, _<_}
 use native.Mathlib.Omega.{arith}
-use native.Mathlib.Decide.{decLt}
-use lib.Dec.{ltb}
-use lib.ListN.{set, length}
-use lib.Seq.{getD-set-other}
-use borrow.Author.Tests.{eq-eqb, lt-ltb, ltb-true}
+use native.Mathlib.Decide.{ℕ-discrete}
+use lib.Dec.{eqb, ltb}
+use borrow.Author.Tests.{eqb-true, eqb-false, eq-eqb, ltb-true}
+use Rattle.sizes.specs.Sizes.{mostTypes}
+use Rattle.laws.specs.Tests.{by-test}
 use Rattle.laws.specs.Entry.{vec}
-use Rattle.laws.specs.Store.{store-more}
-use Rattle.laws.specs.Count.{tally, tally-lt, both-true, both-show}
-use Rattle.task.specs.declared.Task.{Task}
-use Rattle.task.specs.Plan.{typeOf, instancesOf, PlanOf, held}
-use Rattle.instances.specs.Lowest.{Lowest}
-use Rattle.instances.specs.Seats.{Meet, Free, Seats}
+use Rattle.laws.specs.Says.{Says}
+use Rattle.laws.specs.Count.{tally, both-true}
+use Rattle.laws.specs.Places.{tally-places}
+use Rattle.colouring.specs.Graph.{joins, Graph, Coloured, SomeColouring, FirstColouring}
+use Rattle.held_slots.specs.Held.{Share, off}
+use Rattle.held_slots.specs.HeldLaws.{meet-back, stretch-share}
+use Rattle.held_slots.specs.Seated.{Clash, SeatedIn, nearW}
+use Rattle.instances.specs.Seats.{Clashing, ClashTable, Seatable, FirstFor, FirstSeats, Either, Merge, WithType, Seats, SeatsTo}
 
-pub free-local : (resource x u w : ℕ → ℕ) (l k a r : ℕ) → ((i : ℕ) → i < k → u i ≡ w i) → Free resource x u l k a r → Free resource x w l k a r
-free-local resource x u w l k a r same f = record {
-  within = f .within;
-  taken = λ v h. let t = f .taken v h in (t .0, t .1, t .2, sym (same (t .0) (t .1)) ∙ t .3);
-  unused = λ h i m q e. f .unused h i m q (same i m ∙ e);
+module _ (n : ℕ) (ty : ℕ → ℕ) (l a k r : ℕ) (ha : 0 < a) (t : ℕ → ℕ) (c : List (List Bool)) (z : ClashTable n ty t l k r c) where
+  pub clash-graph : Graph n c
+  clash-graph = record {
+    both = λ i j h m e. let q = z .row i h .each j m .yes e in
+        by-test (joins c j i) (λ s. s) (λ s. absurd (z .row j m .each i h .no s (record { different = λ x. q .different (sym x); first = q .second; second = q .first; share = meet-back (q .share) })));
+    simple = λ i h e. z .row i h .each i h .yes e .different refl;
+  }
+
+  -- instances in type r, and 0 elsewhere
+  only : (ℕ → ℕ) → ℕ → ℕ
+  only u i = cond (eqb (ty i) r) (u i) 0
+
+  only-in : (u : ℕ → ℕ) (i : ℕ) → ty i ≡ r → only u i ≡ u i
+  unfolding only
+  only-in u i e = ap (λ (b : Bool). cond b (u i) 0) (eq-eqb (ty i) r e)
+
+  only-out : (u : ℕ → ℕ) (i : ℕ) → ty i ≢ r → only u i ≡ 0
+  unfolding only
+  only-out u i ne = by-test (eqb (ty i) r) (λ e. absurd (ne (eqb-true (ty i) r e))) (λ e. ap (λ (b : Bool). cond b (u i) 0) e)
+
+  seats-coloured : (u : ℕ → ℕ) → SeatedIn n ty l a k r t u → Coloured n c a (only u)
+  seats-coloured u s = record {
+    below = λ i h. pick i h (ℕ-discrete (ty i) r);
+    apart = λ i j h m e q. let w = z .row i h .each j m .yes e in s .apart i j h m w (sym (only-in u i (w .first)) ∙ q ∙ only-in u j (w .second));
+  }
+    where
+      pick : (i : ℕ) → i < n → Dec (ty i ≡ r) → only u i < a
+      pick i h (yes e) = omega (arith, only-in u i e, s .below i h e)
+      pick i h (no e) = omega (arith, only-out u i e)
+
+  coloured-seats : (w : ℕ → ℕ) → Coloured n c a w → SeatedIn n ty l a k r t w
+  coloured-seats w o = record {
+    below = λ i h e. o .below i h;
+    apart = λ i j h m q e. by-test (joins c i j) (λ s. o .apart i j h m s e) (λ s. z .row i h .each j m .no s q);
+  }
+
+  pub seatable-from : {b : Bool} {w : List ℕ} → SomeColouring n c a b w → Says (Seatable n ty l a k r t) b
+  seatable-from {b} {w} s = record { yes = λ e. (vec w, coloured-seats (vec w) (s .coloured e)); no = λ e q. s .none e (only (q .0)) (seats-coloured (q .0) (q .1)) }
+
+  pub seats-from : {b : Bool} {w : List ℕ} → FirstColouring n c a b w → FirstSeats n ty l a k r t (vec w)
+  seats-from {b} {w} f = record { seated = λ u s. coloured-seats (vec w) (f .coloured (found u s)); first = λ u s. order u (f .first (found u s) (only u) (seats-coloured u s) .case) }
+    where
+      found : (u : ℕ → ℕ) → SeatedIn n ty l a k r t u → b ≡ true
+      found u s = by-test b (λ e. e) (λ e. absurd (f .none e (only u) (seats-coloured u s)))
+
+      order : (u : ℕ → ℕ) → ((v : ℕ) → v < n → vec w v ≡ only u v) ⊎ ((m : ℕ) × (m < n) × (vec w m < only u m) × ((v : ℕ) → v < m → vec w v ≡ only u v)) → FirstFor n ty r (vec w) u
+      order u (inl e) = record { case = inl (λ i h q. e i h ∙ only-in u i q) }
+      order u (inr x) = at (ℕ-discrete (ty (x .0)) r)
+        where
+          at : Dec (ty (x .0) ≡ r) → FirstFor n ty r (vec w) u
+          at (yes q) = record { case = inr (x .0, x .1, q, omega (arith, x .2, only-in u (x .0) q), λ i h p. x .3 i h ∙ only-in u i p) }
+          at (no q) = absurd (omega (arith, x .2, only-out u (x .0) q))
+
+-- ---- types together
+
+-- only the instances in type r matter
+first-local : (n : ℕ) (ty : ℕ → ℕ) (l a k r : ℕ) (t w w' : ℕ → ℕ) → ((i : ℕ) → i < n → ty i ≡ r → w' i ≡ w i) → FirstSeats n ty l a k r t w → FirstSeats n ty l a k r t w'
+first-local n ty l a k r t w w' e f = record {
+  seated = λ u s. let q = f .seated u s in record { below = λ i h m. subst (λ (x : ℕ). x < a) (sym (e i h m)) (q .below i h m); apart = λ i j h m x y. q .apart i j h m x (sym (e i h (x .first)) ∙ y ∙ e j m (x .second)) };
+  first = λ u s. record { case = ⊎-elim (λ x. inl (λ i h m. e i h m ∙ x i h m)) (λ x. inr (x .0, x .1, x .2, subst (λ (y : ℕ). y < u (x .0)) (sym (e (x .0) (x .1) (x .2))) (x .3), λ i h m. e i (omega (arith, x .1)) m ∙ x .4 i h m)) (f .first u s .case) };
 }
 
-pub seat-more : (resource x : ℕ → ℕ) (a : ℕ → ℕ) (l : ℕ) (u : List ℕ) (k r : ℕ) → k < length u → ((j : ℕ) → j < k → Free resource x (vec u) l j (a j) (vec u j)) → Free resource x (vec u) l k (a k) r → (j : ℕ) → j < k + 1 → Free resource x (vec (set u k r)) l j (a j) (vec (set u k r) j)
-seat-more resource x a l u k r h c f j m = free-local resource x (vec u) (vec (set u k r)) l j (a j) (vec (set u k r) j) (λ i q. sym (getD-set-other u k i r 0 (λ e. far i q e)))
-    (store-more (λ i z. Free resource x (vec u) l i (a i) z) u k r 0 h f c j m)
+pub with-merge : {n : ℕ} {ty : ℕ → ℕ} {l a k r : ℕ} {t : ℕ → ℕ} (u w out : ℕ → ℕ) → (a ≡ 0 → ⊥) → FirstSeats n ty l a k r t w → Merge n ty r u w out → WithType n ty l a k r t u out
+with-merge {n} {ty} {l} {a} {k} {r} {t} u w out na f m = record { limited = λ _. first-local n ty l a k r t w out (m .inside) f; outside = m .outside; unlimited = λ e. absurd (na e) }
+
+pub with-none : {n : ℕ} {ty : ℕ → ℕ} {l a k r : ℕ} {t : ℕ → ℕ} (u : ℕ → ℕ) → a ≡ 0 → WithType n ty l a k r t u u
+with-none u e = record { limited = λ h. absurd (omega arith); outside = λ i h m. refl; unlimited = λ _ i h. refl }
+
+pub seats-start : (n : ℕ) (ty limit busy : ℕ → ℕ) (l : ℕ) (t : ℕ → ℕ) (u : List ℕ) → ((i : ℕ) → vec u i ≡ 0) → SeatsTo n ty limit busy l t (vec u) 0
+seats-start n ty limit busy l t u z = record { limited = λ r h. absurd (omega arith); unlimited = λ i h e. z i }
+
+pub seats-next : {n : ℕ} {ty limit busy : ℕ → ℕ} {l m : ℕ} {t u out : ℕ → ℕ} → SeatsTo n ty limit busy l t u m → WithType n ty l (limit m) (busy m) m t u out → SeatsTo n ty limit busy l t out (m + 1)
+seats-next {n} {ty} {limit} {busy} {l} {m} {t} {u} {out} s w = record { limited = λ r h. at r h (ℕ-discrete r m); unlimited = λ i h e. zero-at i h e (ℕ-discrete (ty i) m) }
   where
-    far : (i : ℕ) → i < j → i ≡ k → ⊥
-    far i q e = omega arith
+    at : (r : ℕ) → r < m + 1 → Dec (r ≡ m) → 0 < limit r → FirstSeats n ty l (limit r) (busy r) r t out
+    at r h (yes e) = subst (λ (x : ℕ). 0 < limit x → FirstSeats n ty l (limit x) (busy x) x t out) (sym e) (w .limited)
+    at r h (no e) = λ b. first-local n ty l (limit r) (busy r) r t u out (λ i q y. w .outside i q (λ x. e (sym y ∙ x))) (s .limited r (omega arith) b)
 
--- ---- a plan's slots have room: the lowest instance is below the limit
+    zero-at : (i : ℕ) → i < n → limit (ty i) ≡ 0 → Dec (ty i ≡ m) → out i ≡ 0
+    zero-at i h e (yes q) = w .unlimited (sym (ap limit q) ∙ e) i h ∙ s .unlimited i h e
+    zero-at i h e (no q) = w .outside i h q ∙ s .unlimited i h e
 
-module _ (p : Task) (x u : ℕ → ℕ) (k : ℕ) (hk : k < p .ops) (plan : PlanOf p x) (limited : 0 < instancesOf p (typeOf p k)) where
-  abbrev here : ℕ → Bool
-  here i = held (typeOf p) x (p .interval) (typeOf p k) (x k % p .interval) i
+pub seats-done : {n : ℕ} {ty limit busy : ℕ → ℕ} {l m : ℕ} {t u : ℕ → ℕ} → SeatsTo n ty limit busy l t u m → mostTypes ≤ m → Seats n ty limit busy l t u
+seats-done s h = record { limited = λ r l. s .limited r (omega arith); unlimited = s .unlimited }
 
-  abbrev part : ℕ → ℕ → Bool
-  part m i = cond (here i) (cond (ltb i k) (ltb (u i) m) false) false
+-- ---- the graph, entry by entry
 
-  here-show : (i : ℕ) → Meet (typeOf p) x (p .interval) i k → here i ≡ true
-  here-show i q = both-show _ _ (eq-eqb _ _ (q .type)) (eq-eqb _ _ (q .slot))
+pub clashes-here : {one : Bool} {ci cj xi xj l k r : ℕ} {b : Bool} → one ≡ false → ci ≡ r → cj ≡ r → Says (Share l k xi xj) b → Says (Clashing one ci cj xi xj l k r) b
+clashes-here o p q c = record { yes = λ e. record { different = o; first = p; second = q; share = c .yes e }; no = λ e s. c .no e (s .share) }
 
-  many : (m : ℕ) → ((v : ℕ) → v < m → (i : ℕ) × (i < k) × Meet (typeOf p) x (p .interval) i k × (u i ≡ v)) → m ≤ tally (p .ops) (part m)
-  many zero h = omega arith
-  many (suc m) h = step (many m (λ v q. h v (omega arith))) (h m (omega arith))
-    where
-      step : m ≤ tally (p .ops) (part m) → (i : ℕ) × (i < k) × Meet (typeOf p) x (p .interval) i k × (u i ≡ m) → suc m ≤ tally (p .ops) (part (suc m))
-      step g t = omega (
-        arith,
-        g,
-        tally-lt (p .ops) (part m) (part (suc m)) (t .0) (omega (arith, t .1))
-            (λ e. let d = both-true (here (t .0)) _ e in let d′ = both-true (ltb (t .0) k) (ltb (u (t .0)) m) (d .1) in let z : u (t .0) < m = ltb-true (u (t .0)) m (d′ .1) in omega (arith, t .3))
-            (both-show _ _ (here-show (t .0) (t .2)) (both-show _ _ (lt-ltb _ _ (t .1)) (lt-ltb (u (t .0)) (suc m) (omega (arith, t .3)))))
-            (λ i q e. let d = both-true (here i) _ e in let d′ = both-true (ltb i k) (ltb (u i) m) (d .1) in both-show _ _ (d .0) (both-show _ _ (d′ .0) (lt-ltb (u i) (suc m) (omega (arith, ltb-true (u i) m (d′ .1)))))),
-      )
+pub clashes-bit : (ty t : ℕ → ℕ) (l k r i j : ℕ) {b : Bool} → Says (Clashing (eqb i j) (ty i) (ty j) (t i) (t j) l k r) b → Says (Clash ty t l k r i j) b
+clashes-bit ty t l k r i j c = record {
+  yes = λ e. let q = c .yes e in record { different = eqb-false i j (q .different); first = q .first; second = q .second; share = q .share };
+  no = λ e q. by-test (eqb i j) (λ s. q .different (eqb-true i j s)) (λ s. c .no e (record { different = s; first = q .first; second = q .second; share = q .share }));
+}
 
-  pub seat-below : Free (typeOf p) x u (p .interval) k (instancesOf p (typeOf p k)) (u k) → u k < instancesOf p (typeOf p k)
-  seat-below f = pick (decLt (u k) (instancesOf p (typeOf p k)))
-    where
-      pick : Dec (u k < instancesOf p (typeOf p k)) → u k < instancesOf p (typeOf p k)
-      pick (yes q) = q
-      pick (no q) = absurd (omega (
-        arith,
-        f .within,
-        many (u k) (f .taken),
-        plan .room (typeOf p k) (x k % p .interval) limited,
-        tally-lt (p .ops) (part (u k)) here k hk (λ e. let d = both-true (here k) _ e in let d′ = both-true (ltb k k) (ltb (u k) (u k)) (d .1) in let z : k < k = ltb-true k k (d′ .0) in omega arith)
-            (here-show k (record { type = refl; slot = refl })) (λ i m e. both-true (here i) _ e .0),
-      ))
+pub either-type : (a r : ℕ) {x y z : ℕ} → Either (eqb a r) x y z → (a ≡ r → z ≡ x) × ((a ≡ r → ⊥) → z ≡ y)
+either-type a r e = (λ q. e .yes (eq-eqb a r q), λ q. by-test (eqb a r) (λ s. absurd (q (eqb-true a r s))) (λ s. e .no s))
 
--- in the words of `Lowest.antt`: rivals are of one limited type
-abbrev pub Rival : Task → (ℕ → ℕ) → ℕ → ℕ → Type 0
-Rival p x i k = Meet (typeOf p) x (p .interval) i k × (0 < instancesOf p (typeOf p k))
+-- ---- counts
 
-module _ (p : Task) (x u : List ℕ) (s : Seats p x u) where
-  pub seats-lowest : Lowest (Rival p (vec x)) (p .ops) (vec u)
-  seats-lowest = record { taken = λ k h v m. let t = s .seat k h .taken v m in (t .0, t .1, (t .2, omega (arith, s .seat k h .within)), t .3) }
+-- a stretch of k slots has no more starts of the type than the type has instances: any two of them hold a slot in
+-- common
+pub seated-room : (n : ℕ) (ty : ℕ → ℕ) (l a k r : ℕ) (t u : ℕ → ℕ) → 0 < l → SeatedIn n ty l a k r t u → (s : ℕ) → s < l → tally n (nearW ty t l r s k) ≤ a
+seated-room n ty l a k r t u hl p s hs = tally-places a n (nearW ty t l r s k) u (λ i h e. p .below i h (near i e .0))
+    (λ i j m h e d q. p .apart i j (omega arith) h (record { different = λ x. omega arith; first = near i e .0; second = near j d .0; share = stretch-share l k hl s (t i) (t j) hs (near i e .1) (near j d .1) }) q)
+  where
+    near : (i : ℕ) → nearW ty t l r s k i ≡ true → (ty i ≡ r) × (off l s (t i % l) < k)
+    near i e = let q = both-true (eqb (ty i) r) (ltb (off l s (t i % l)) k) e in (eqb-true (ty i) r (q .0), ltb-true (off l s (t i % l)) k (q .1))
 
-  pub seats-below : PlanOf p (vec x) → (k : ℕ) → k < p .ops → 0 < instancesOf p (typeOf p k) → vec u k < instancesOf p (typeOf p k)
-  seats-below plan k h l = seat-below p (vec x) (vec u) k h plan l (s .seat k h)
-
-  pub seats-apart : PlanOf p (vec x) → (i k : ℕ) → i < k → k < p .ops → Rival p (vec x) i k → vec u i ≡ vec u k → ⊥
-  seats-apart plan i k l h m e = s .seat k h .unused (seats-below plan k h (m .1)) i l (m .0) e
-
-  pub seats-zero : (k : ℕ) → k < p .ops → instancesOf p (typeOf p k) ≡ 0 → vec u k ≡ 0
-  seats-zero k h e = omega (arith, s .seat k h .within)
+-- only the starts of the operations matter
+pub seated-local : (n : ℕ) (ty : ℕ → ℕ) (l a k r : ℕ) (s t u : ℕ → ℕ) → ((i : ℕ) → i < n → s i ≡ t i) → SeatedIn n ty l a k r s u → SeatedIn n ty l a k r t u
+seated-local n ty l a k r s t u e p = record {
+  below = p .below;
+  apart = λ i j h m c. p .apart i j h m (record { different = c .different; first = c .first; second = c .second; share = subst (λ (x : ℕ). Share l k x (s j)) (sym (e i h)) (subst (λ (x : ℕ). Share l k (t i) x) (sym (e j m)) (c .share)) });
+}

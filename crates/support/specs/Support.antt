@@ -5,6 +5,7 @@ use mathlib.Core.List.{List}
 use Prim.Native.Nat.{ℕ, _≤_, _<_}
 use lib.IntN.{ℤ, pos, negsuc, _+ℤ_}
 use lib.Signed.{_≤ℤ_, _<ℤ_}
+use Rattle.sizes.specs.Sizes.{mostStarts}
 use Rattle.laws.specs.Entry.{vec}
 use Rattle.domain.specs.Domain.{has, Part}
 
@@ -13,24 +14,24 @@ pub record Far (z : ℤ) : Type 0 where
   pub low : negsuc 999999 ≤ℤ z
   pub high : z ≤ℤ pos 1000000
 
--- r is z where that is 0 to 128, else the nearer of the two
+-- r is z where that is 0 to `mostStarts`, else the nearer of the two
 pub record Clip (z : ℤ) (r : ℕ) : Type 0 where
-  pub within : r ≤ 128
+  pub within : r ≤ mostStarts
   pub low : (x : ℕ) → z ≤ℤ pos x → r ≤ x
-  pub high : (x : ℕ) → x < 128 → pos x <ℤ z → x < r
+  pub high : (x : ℕ) → x < mostStarts → pos x <ℤ z → x < r
 
 -- no start x with t + lag ≤ x is below r
 pub record LowEnd (t : ℕ) (lag : ℤ) (r : ℕ) : Type 0 where
-  pub within : r ≤ 128
-  pub low : (x : ℕ) → x < 128 → (pos t +ℤ lag) ≤ℤ pos x → r ≤ x
+  pub within : r ≤ mostStarts
+  pub low : (x : ℕ) → x < mostStarts → (pos t +ℤ lag) ≤ℤ pos x → r ≤ x
 
 -- each start x with x + lag ≤ t is below r
 pub record HighEnd (t : ℕ) (lag : ℤ) (r : ℕ) : Type 0 where
-  pub high : (x : ℕ) → x < 128 → (pos x +ℤ lag) ≤ℤ pos t → x < r
+  pub high : (x : ℕ) → x < mostStarts → (pos x +ℤ lag) ≤ℤ pos t → x < r
 
 -- where start t is still allowed (b), no start x with t + lag ≤ x is below r
 pub record LowIf (b : Bool) (t : ℕ) (lag : ℤ) (r : ℕ) : Type 0 where
-  pub within : r ≤ 128
+  pub within : r ≤ mostStarts
   pub when : b ≡ true → LowEnd t lag r
 
 -- where start t is still allowed (b), each start x with x + lag ≤ t is below r
@@ -44,12 +45,14 @@ pub record Earlier (b : Bool) (a later r : ℕ) : Type 0 where
 
 -- from a on, entry k is no more than any start of the row that is at least k
 pub record NextFrom (q : List Bool) (a : ℕ) (next : List ℕ) : Type 0 where
-  pub upto : (k : ℕ) → a ≤ k → k ≤ 128 → (x : ℕ) → k ≤ x → x < 128 → has q x ≡ true → vec next k ≤ x
+  pub upto : (k : ℕ) → a ≤ k → k ≤ mostStarts → (x : ℕ) → k ≤ x → x < mostStarts → has q x ≡ true → vec next k ≤ x
 
--- the row r loses no start of `row` that some start of q supports, and has none that `row` lacks; which of the others it has is left free
+-- the row r loses no start of `row` that some start of q supports, and has none that `row` lacks; which of the others
+-- it has is left free
 pub record Supported (q row : List Bool) (there back : ℤ) (r : List Bool) : Type 0 where
   pub was : Part r row
-  pub stays : (x t : ℕ) → x < 128 → t < 128 → has q x ≡ true → has row t ≡ true → (pos x +ℤ there) ≤ℤ pos t → (pos t +ℤ back) ≤ℤ pos x → has r t ≡ true
+  pub stays : (x t : ℕ) → x < mostStarts → t < mostStarts → has q x ≡ true → has row t ≡ true
+      → (pos x +ℤ there) ≤ℤ pos t → (pos t +ℤ back) ≤ℤ pos x → has r t ≡ true
 
 -- the same for every row q of which `next` is right: entry k is no more than any start of q that is at least k
 pub record SupportedBy (next : List ℕ) (row : List Bool) (there back : ℤ) (r : List Bool) : Type 0 where
@@ -58,4 +61,5 @@ pub record SupportedBy (next : List ℕ) (row : List Bool) (there back : ℤ) (r
 -- the same for one start
 pub record At (next : List ℕ) (b : Bool) (there back : ℤ) (t : ℕ) (r : Bool) : Type 0 where
   pub was : r ≡ true → b ≡ true
-  pub stays : (q : List Bool) → NextFrom q 0 next → (x : ℕ) → x < 128 → has q x ≡ true → b ≡ true → (pos x +ℤ there) ≤ℤ pos t → (pos t +ℤ back) ≤ℤ pos x → r ≡ true
+  pub stays : (q : List Bool) → NextFrom q 0 next → (x : ℕ) → x < mostStarts → has q x ≡ true → b ≡ true
+      → (pos x +ℤ there) ≤ℤ pos t → (pos t +ℤ back) ≤ℤ pos x → r ≡ true

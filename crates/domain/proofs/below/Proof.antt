@@ -6,16 +6,17 @@ use Prim.Native.Nat.{ℕ, _≤_, _<_, _-_}
 use native.Mathlib.Omega.{arith}
 use lib.ListN.{length, length-set}
 use borrow.Author.Needs.{needs}
+use Rattle.sizes.specs.Sizes.{mostStarts}
 use Rattle.laws.specs.Store.{store-more}
 use Rattle.domain.specs.Domain.{has, Under}
 use Rattle.domain.proofs.below.Statement.{statement}
 use Rattle.domain.proofs.below.Tie as tie
 
 abbrev Inv-loop : tie.InvT-loop
-Inv-loop x row out₀ t₀ out t = (t ≤ 128) × (length out ≡ 128) × ((k : ℕ) → k < t → Under (has row k) k x (has out k))
+Inv-loop x row out₀ t₀ out t = (t ≤ mostStarts) × (length out ≡ mostStarts) × ((k : ℕ) → k < t → Under (has row k) k x (has out k))
 
 abbrev μ-loop : tie.MeasureT-loop
-μ-loop x row out₀ t₀ out t = 128 - t
+μ-loop x row out₀ t₀ out t = mostStarts - t
 
 loop-holds : tie.Need-loop-holds Inv-loop μ-loop
 loop-holds c = (omega arith, search needs, λ k l. absurd (omega arith))
@@ -37,10 +38,10 @@ loop-less c = search needs
 
 loop-again : tie.Need-loop-again Inv-loop μ-loop
 loop-again c = let s = c .before .before .before in let l = c .before .before .loop in
-    (omega arith, simp length-set (l .inv .1), store-more (λ k z. Under (has (s .args .t1) k) k (s .args .x) z) (l .out) (l .t) _ false (omega (arith, l .inv .1)) (c .under .ensures) (l .inv .2))
+    (omega arith, simp length-set (l .inv .1), store-more (λ k z. Under (has (s .args .t1) k) k (s .args .end) z) (l .out) (l .t) _ false (omega (arith, l .inv .1)) (c .under .ensures) (l .inv .2))
 
 returns : tie.Need-returns Inv-loop μ-loop
-returns c = let q : (k : ℕ) → k < 128 → Under (has (c .before .before .args .t1) k) k (c .before .before .args .x) (has (c .before .loop .out) k) = λ k h. c .before .loop .inv .2 k (omega arith) in
+returns c = let q : (k : ℕ) → k < mostStarts → Under (has (c .before .before .args .t1) k) k (c .before .before .args .end) (has (c .before .loop .out) k) = λ k h. c .before .loop .inv .2 k (omega arith) in
     record { low = λ t h e b. q t h .back b e; high = λ t h e b. let y = q t h .yes b .1 in omega arith; was = record { part = λ t h b. q t h .yes b .0 } }
 
 pub below-spec : {M : Type 1} → statement M

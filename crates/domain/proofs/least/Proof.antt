@@ -1,4 +1,4 @@
--- `domain::least` gives the least start, or 128.
+-- `domain::least` gives the least start, or `mostStarts`.
 -- From a loop that has met no start yet.
 use mathlib.Core.Path.{_≡_, sym, _∙_}
 use mathlib.Core.Bool.{true}
@@ -6,16 +6,17 @@ use Prim.Native.Nat.{ℕ, _≤_, _<_, _-_}
 use native.Mathlib.Omega.{arith}
 use borrow.Author.Needs.{needs}
 use borrow.Author.Count.{below-more}
+use Rattle.sizes.specs.Sizes.{mostStarts}
 use Rattle.laws.specs.Z.{true-false}
 use Rattle.domain.specs.Domain.{has}
 use Rattle.domain.proofs.least.Statement.{statement}
 use Rattle.domain.proofs.least.Tie as tie
 
 abbrev Inv-loop : tie.InvT-loop
-Inv-loop row t₀ t = (t ≤ 128) × ((k : ℕ) → k < t → has row k ≡ true → ⊥)
+Inv-loop row t₀ t = (t ≤ mostStarts) × ((k : ℕ) → k < t → has row k ≡ true → ⊥)
 
 abbrev μ-loop : tie.MeasureT-loop
-μ-loop row t₀ t = 128 - t
+μ-loop row t₀ t = mostStarts - t
 
 loop-holds : tie.Need-loop-holds Inv-loop μ-loop
 loop-holds c = search needs

@@ -7,6 +7,7 @@ use Prim.Native.Nat.{ℕ, _≤_, _<_, _-_, _%_}
 use native.Mathlib.Omega.{arith}
 use borrow.Author.Needs.{needs}
 use borrow.Author.Count.{below-more}
+use Rattle.sizes.specs.Sizes.{mostStarts}
 use Rattle.laws.specs.Z.{true-false}
 use Rattle.domain.specs.Rows.{same-class}
 use Rattle.domain.specs.Domain.{has}
@@ -14,13 +15,13 @@ use Rattle.domain.proofs.other_class.Statement.{statement}
 use Rattle.domain.proofs.other_class.Tie as tie
 
 abbrev Inv-loop : tie.InvT-loop
-Inv-loop x m row s t₀ t = (t ≤ 128) × ((k : ℕ) → k < t → has row k ≡ true → k % m ≢ s → ⊥)
+Inv-loop x m row s t₀ t = (t ≤ mostStarts) × ((k : ℕ) → k < t → has row k ≡ true → k % m ≢ s → ⊥)
 
 abbrev μ-loop : tie.MeasureT-loop
-μ-loop x m row s t₀ t = 128 - t
+μ-loop x m row s t₀ t = mostStarts - t
 
-rem-s : tie.Need-rem-s Inv-loop μ-loop
-rem-s c = search needs
+rem-class : tie.Need-rem-class Inv-loop μ-loop
+rem-class c = search needs
 
 loop-holds : tie.Need-loop-holds Inv-loop μ-loop
 loop-holds c = search needs
@@ -52,7 +53,7 @@ other-class-spec =
     (tie.spec
     Inv-loop
     μ-loop
-    rem-s
+    rem-class
     loop-holds
     array-read-off-class
     off-class-requires

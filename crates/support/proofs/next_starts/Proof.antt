@@ -1,17 +1,18 @@
 -- `support::next_starts` has for each a no more than the least start from a on.
 -- From `next-step`, from the last start down.
 use mathlib.Core.Path.{_≡_, refl}
-use Prim.Native.Nat.{_≤_, _-_}
+use Prim.Native.Nat.{_+_, _≤_, _-_}
 use native.Mathlib.Omega.{arith}
 use lib.ListN.{length, length-set}
 use borrow.Author.Needs.{needs}
+use Rattle.sizes.specs.Sizes.{mostStarts}
 use Rattle.support.specs.SupportLaws.{next-step, next-none}
 use Rattle.support.specs.Support.{NextFrom}
 use Rattle.support.proofs.next_starts.Statement.{statement}
 use Rattle.support.proofs.next_starts.Tie as tie
 
 abbrev Inv-loop : tie.InvT-loop
-Inv-loop row next₀ a₀ next a = (a ≤ 128) × (length next ≡ 129) × NextFrom row a next
+Inv-loop row next₀ a₀ next a = (a ≤ mostStarts) × (length next ≡ mostStarts + 1) × NextFrom row a next
 
 abbrev μ-loop : tie.MeasureT-loop
 μ-loop row next₀ a₀ next a = a

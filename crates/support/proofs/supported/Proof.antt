@@ -8,6 +8,7 @@ use lib.ListN.{length, length-set}
 use mir.Syntax.{w32}
 use mir.Val.{toZ, ofZ}
 use borrow.Author.Needs.{needs}
+use Rattle.sizes.specs.Sizes.{mostStarts}
 use Rattle.laws.specs.Store.{store-more}
 use Rattle.laws.specs.Z.{kept}
 use Rattle.domain.specs.Domain.{has}
@@ -17,10 +18,10 @@ use Rattle.support.proofs.supported.Statement.{statement}
 use Rattle.support.proofs.supported.Tie as tie
 
 abbrev Inv-loop : tie.InvT-loop
-Inv-loop next there back row out₀ t₀ out t = (t ≤ 128) × (length out ≡ 128) × ((k : ℕ) → k < t → At next (has row k) (toZ w32 there) (toZ w32 back) k (has out k))
+Inv-loop next there back row out₀ t₀ out t = (t ≤ mostStarts) × (length out ≡ mostStarts) × ((k : ℕ) → k < t → At next (has row k) (toZ w32 there) (toZ w32 back) k (has out k))
 
 abbrev μ-loop : tie.MeasureT-loop
-μ-loop next there back row out₀ t₀ out t = 128 - t
+μ-loop next there back row out₀ t₀ out t = mostStarts - t
 
 loop-holds : tie.Need-loop-holds Inv-loop μ-loop
 loop-holds c = (omega arith, search needs, λ k l. absurd (omega arith))
