@@ -5,6 +5,7 @@ use mathlib.Core.Logic.{_≢_}
 use mathlib.Core.List.{List}
 use Prim.Native.Nat.{ℕ, _%_, _<_}
 use native.Mathlib.Omega.{arith}
+use Rattle.sizes.specs.Sizes.{mostStarts}
 use Rattle.laws.specs.Entry.{vec}
 use Rattle.laws.specs.Z.{true-false}
 use Rattle.domain.specs.Domain.{has, rowOf, Solved}
@@ -12,10 +13,10 @@ use Rattle.domain.specs.Split.{Splits, LeastStarts, pinned-none}
 use Rattle.search.specs.Steps.{Bare, Loose, Looked}
 
 module _ {n : ℕ} {d : List (List Bool)} {x : List ℕ} {b : ℕ} (z : LeastStarts n d x) (w : Bare n x b) (full : b ≡ n) where
-  start-small : (i : ℕ) → i < n → vec x i < 128
+  start-small : (i : ℕ) → i < n → vec x i < mostStarts
   start-small i l = w .before i (omega arith)
 
-  pub split-at : {i m t : ℕ} → i < n → 0 < m → t < 128 → has (rowOf d i) t ≡ true → t % m ≢ vec x i % m → Splits n d i m
+  pub split-at : {i m t : ℕ} → i < n → 0 < m → t < mostStarts → has (rowOf d i) t ≡ true → t % m ≢ vec x i % m → Splits n d i m
   split-at {i} {m} {t} l p h y ne = record { op = l; positive = p; a = t; b = vec x i; a-in = h; b-in = start-small i l; a-has = y; b-has = z .least i l .here (start-small i l); differ = ne }
 
   pub all-pinned : (Plan : (ℕ → ℕ) → Type 0) → ((s t : ℕ → ℕ) → ((i : ℕ) → i < n → s i ≡ t i) → Plan s → Plan t) → {r : ℕ} {y : List ℕ} → Loose n d x r → r ≡ n → (Plan (vec x) → ⊥) → Solved Plan n d false y

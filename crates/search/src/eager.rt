@@ -10,10 +10,13 @@ use crate::First;
 use crate::choose::single;
 use crate::look::first_bare;
 use crate::look::least_starts;
+use domain::Domain;
+use sizes::MOST_OPERATIONS;
+use sizes::MOST_STARTS;
 use task::Task;
 
 // The domain narrowed after its row of i changed, if it did.
-fn narrowed(p: Task, d: [[bool; 128]; 24], i: usize, changed: bool) -> [[bool; 128]; 24]
+fn narrowed(p: Task, d: Domain, i: usize, changed: bool) -> Domain
     requires { ⌜ Ready p × (i < p .ops) ⌝ }
     ensures { λ r. ⌜ Keeps (PlanOf p) (p .ops) d r ⌝ }
 {
@@ -28,19 +31,19 @@ fn no_answer() -> First
 {
     First {
         yes: false,
-        starts: [0; 24],
+        starts: [0; MOST_OPERATIONS],
     }
 }
 
 // The least starts of the domain, if they are a plan.
-fn least_plan(p: Task, d: [[bool; 128]; 24]) -> First
+fn least_plan(p: Task, d: Domain) -> First
     requires { ⌜ Ready p ⌝ }
     ensures { λ r. ⌜ Held (PlanOf p) (p .ops) d (r .yes) (r .starts) ⌝ }
 {
-    let n = p.ops;
-    let x = least_starts(d, n);
-    let b = first_bare(x, n);
-    if b < n {
+    let ops = p.ops;
+    let x = least_starts(d, ops);
+    let b = first_bare(x, ops);
+    if b < ops {
         return no_answer();
     }
     if task::is_plan(p, x) {
@@ -53,20 +56,20 @@ fn least_plan(p: Task, d: [[bool; 128]; 24]) -> First
 }
 
 // The first plan in the domain, or no answer.
-pub fn eager(p: Task, ok: [[bool; 128]; 24]) -> First
+pub fn eager(p: Task, ok: Domain) -> First
     requires { ⌜ Ready p ⌝ }
     ensures { λ r. ⌜ Tried (PlanOf p) (p .ops) ok (r .yes) (r .starts) ⌝ }
 {
-    let n = p.ops;
-    let mut d = narrow::narrow(p, ok, [true; 24]);
+    let ops = p.ops;
+    let mut d = narrow::narrow(p, ok, [true; MOST_OPERATIONS]);
     let mut i: usize = 0;
-    while i < n {
-        let x = least_starts(d, n);
-        let b = first_bare(x, n);
-        if b < n {
+    while i < ops {
+        let x = least_starts(d, ops);
+        let b = first_bare(x, ops);
+        if b < ops {
             return no_answer();
         }
-        let several = domain::other_class(d[i], x[i], 128);
+        let several = domain::other_class(d[i], x[i], MOST_STARTS);
         d[i] = domain::only(x[i]);
         let e = narrowed(p, d, i, several);
         d = e;

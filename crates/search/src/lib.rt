@@ -1,5 +1,6 @@
 // A plan in a domain, or none: narrow, try the least starts, split; and the first plan of all.
-// An inner layer, a crate of its own for the check's time: `search` and `first_plan` ask for a task whose numbers are within its arrays and whose lags every plan keeps (`Ready`).
+// An inner layer, a crate of its own for the check's time: `search` and `first_plan` ask for a task whose numbers are
+// within its arrays and whose lags every plan keeps (`Ready`).
 // Caller: schedule::plan_at, which proves `Ready` from the sheet and from what `dependence` promises.
 ghost use mathlib.Core.Path.{_≡_};
 ghost use mathlib.Core.Bool.{true, false};
@@ -15,19 +16,25 @@ mod look;
 
 use choose::blamed;
 use choose::single;
+use domain::Domain;
 use eager::eager;
 use look::look;
+use sizes::MOST_OPERATIONS;
+use sizes::MOST_STARTS;
 use task::Task;
+
+// How often each operation was found at fault: it only guides the choice.
+pub type Blame = [u32; MOST_OPERATIONS];
 
 pub struct Found {
     pub yes: bool,
-    pub starts: [usize; 24],
-    pub blame: [u32; 24],
+    pub starts: [usize; MOST_OPERATIONS],
+    pub blame: Blame,
 }
 
 // A plan in the domain, or none; `dirty` marks the rows that are new to the rules.
 // Left free: which plan it is, `blame`, which only guides the search, and `starts` where none was found and past `ops`.
-pub fn search(p: Task, ok: [[bool; 128]; 24], dirty: [bool; 24], blame: [u32; 24]) -> Found
+pub fn search(p: Task, ok: Domain, dirty: [bool; MOST_OPERATIONS], blame: Blame) -> Found
     requires { ⌜ Ready p ⌝ }
     ensures { λ r. ⌜ Solved (PlanOf p) (p .ops) ok (r .yes) (r .starts) ⌝ }
 {
@@ -45,10 +52,10 @@ pub fn search(p: Task, ok: [[bool; 128]; 24], dirty: [bool; 24], blame: [u32; 24
     let mut counts = blame;
     loop {
         let t = domain::least(row);
-        if t == 128 {
+        if t == MOST_STARTS {
             return Found {
                 yes: false,
-                starts: [0; 24],
+                starts: [0; MOST_OPERATIONS],
                 blame: counts,
             };
         }
@@ -68,7 +75,7 @@ pub fn search(p: Task, ok: [[bool; 128]; 24], dirty: [bool; 24], blame: [u32; 24
 }
 
 // A plan in the domain whose start of i is least, from some plan in it.
-fn lowered(p: Task, d: [[bool; 128]; 24], x: [usize; 24], i: usize) -> [usize; 24]
+fn lowered(p: Task, d: Domain, x: [usize; MOST_OPERATIONS], i: usize) -> [usize; MOST_OPERATIONS]
     requires { ⌜ Ready p × (i < p .ops) × Good (PlanOf p) (p .ops) d x ⌝ }
     ensures { λ r. ⌜ Lowered (PlanOf p) (p .ops) d i r ⌝ }
 {
@@ -81,7 +88,7 @@ fn lowered(p: Task, d: [[bool; 128]; 24], x: [usize; 24], i: usize) -> [usize; 2
         }
         let mut c = d;
         c[i] = domain::below(d[i], best[i]);
-        let g = search(p, c, one, [1; 24]);
+        let g = search(p, c, one, [1; MOST_OPERATIONS]);
         if g.yes {
             best = g.starts;
         } else {
@@ -93,19 +100,19 @@ fn lowered(p: Task, d: [[bool; 128]; 24], x: [usize; 24], i: usize) -> [usize; 2
 #[repr(C)]
 pub struct First {
     pub yes: bool,
-    pub starts: [usize; 24],
+    pub starts: [usize; MOST_OPERATIONS],
 }
 
 // The first plan in the domain, from some plan in it: each operation's start is lowered in turn.
-fn from_plan(p: Task, ok: [[bool; 128]; 24], some: [usize; 24]) -> [usize; 24]
+fn from_plan(p: Task, ok: Domain, some: [usize; MOST_OPERATIONS]) -> [usize; MOST_OPERATIONS]
     requires { ⌜ Ready p × Good (PlanOf p) (p .ops) ok some ⌝ }
     ensures { λ r. ⌜ FirstIn (PlanOf p) (p .ops) ok true r ⌝ }
 {
-    let n = p.ops;
+    let ops = p.ops;
     let mut x = some;
-    let mut d = narrow::narrow(p, ok, [true; 24]);
+    let mut d = narrow::narrow(p, ok, [true; MOST_OPERATIONS]);
     let mut i: usize = 0;
-    while i < n {
+    while i < ops {
         let y = lowered(p, d, x, i);
         d[i] = domain::only(y[i]);
         let e = narrow::narrow(p, d, single(i));
@@ -116,8 +123,9 @@ fn from_plan(p: Task, ok: [[bool; 128]; 24], some: [usize; 24]) -> [usize; 24]
     x
 }
 
-// The first plan in the domain by the order of starts, or none. Left free: `starts` where none was found and past `ops`; schedule::plan_at puts 0 there.
-pub fn first_plan(p: Task, ok: [[bool; 128]; 24]) -> First
+// The first plan in the domain by the order of starts, or none. Left free: `starts` where none was found and past
+// `ops`; schedule::plan_at puts 0 there.
+pub fn first_plan(p: Task, ok: Domain) -> First
     requires { ⌜ Ready p ⌝ }
     ensures { λ r. ⌜ FirstIn (PlanOf p) (p .ops) ok (r .yes) (r .starts) ⌝ }
 {
@@ -125,7 +133,7 @@ pub fn first_plan(p: Task, ok: [[bool; 128]; 24]) -> First
     if e.yes {
         return e;
     }
-    let f = search(p, ok, [true; 24], [1; 24]);
+    let f = search(p, ok, [true; MOST_OPERATIONS], [1; MOST_OPERATIONS]);
     if f.yes {
         let some = f.starts;
         let x = from_plan(p, ok, some);
@@ -136,6 +144,6 @@ pub fn first_plan(p: Task, ok: [[bool; 128]; 24]) -> First
     }
     First {
         yes: false,
-        starts: [0; 24],
+        starts: [0; MOST_OPERATIONS],
     }
 }

@@ -1,4 +1,4 @@
--- `search::search` finds a plan in the domain, or shows that there is none; the allowed starts get fewer with each call.
+-- `search::search` finds a plan in the domain, or shows that there is none; each call has fewer allowed starts.
 -- From `left-all` and `left-next` over the classes, `child-less` for the measure.
 use mathlib.Core.Path.{_≡_, refl}
 use Prim.Native.Nat.{_≤_, ℕ, _<_}
@@ -7,6 +7,7 @@ use lib.ListN.{length}
 use borrow.Author.Needs.{needs}
 use borrow.Fn.Kinds.{In}
 use borrow.Fn.PlainCycle.{Measures, is, falls, and}
+use Rattle.sizes.specs.Sizes.{mostOperations}
 use Rattle.domain.specs.Split.{size, count, Left, Splits, size-le, solved-wider, left-all, child-less, child-found, left-next, left-none, rest-less}
 use Rattle.task.specs.Plan.{PlanOf}
 use Rattle.search.proofs.+search.{statement}
@@ -61,13 +62,13 @@ search-μ-loop p d i m one row₀ counts₀ row counts = count row
 here : (t : ℕ) (c : search-lts.Else1 (callees t) (search-at t) search′.Post search-Inv-loop search-μ-loop) → Splits (c .before .before .before .args .p .ops) (c .before .before .narrow .result) (c .before .look .result .op) (c .before .look .result .modulus)
 here t c = c .before .look .ensures .split (c .if1 .left)
 
-narrowed : (t : ℕ) (c : search-lts.After-narrow (callees t) (search-at t) search′.Post search-Inv-loop search-μ-loop) → length (c .narrow .result) ≡ 24
+narrowed : (t : ℕ) (c : search-lts.After-narrow (callees t) (search-at t) search′.Post search-Inv-loop search-μ-loop) → length (c .narrow .result) ≡ mostOperations
 narrowed t c = search needs
 
-few : (t : ℕ) (c : search-lts.Start (callees t) (search-at t) search′.Post search-Inv-loop search-μ-loop) → c .args .p .ops ≤ 24
+few : (t : ℕ) (c : search-lts.Start (callees t) (search-at t) search′.Post search-Inv-loop search-μ-loop) → c .args .p .ops ≤ mostOperations
 few t c = c .pre .1 .task .ops-ok
 
-op-in : (t : ℕ) (c : search-lts.Else1 (callees t) (search-at t) search′.Post search-Inv-loop search-μ-loop) → c .before .look .result .op < 24
+op-in : (t : ℕ) (c : search-lts.Else1 (callees t) (search-at t) search′.Post search-Inv-loop search-μ-loop) → c .before .look .result .op < mostOperations
 op-in t c = omega (arith, here t c .op, few t (c .before .before .before))
 
 search-narrow-requires : (t : ℕ) → search-lts.Need-narrow-requires (callees t) (search-at t) search′.Post search-Inv-loop search-μ-loop

@@ -1,4 +1,4 @@
--- `search::first_plan` gives the first plan, or that there is none: by the easy way, or from the plan that the search finds.
+-- `search::first_plan` gives the first plan, or that there is none: by the easy way, or from a plan that is found.
 -- From what `eager`, `search` and `from_plan` promise.
 use borrow.Author.Needs.{needs}
 use Rattle.domain.specs.First.{first-none}

@@ -5,16 +5,17 @@ use Prim.Native.Nat.{_-_, _≤_}
 use native.Mathlib.Omega.{arith}
 use lib.ListN.{length}
 use borrow.Author.Needs.{needs}
+use Rattle.sizes.specs.Sizes.{mostOperations}
 use Rattle.domain.specs.First.{Lead, lead-start, lead-next, lead-keeps, lead-done, first-wider}
 use Rattle.task.specs.Plan.{PlanOf}
 use Rattle.search.proofs.from_plan.Statement.{statement}
 use Rattle.search.proofs.from_plan.Tie as tie
 
 abbrev Inv-loop : tie.InvT-loop
-Inv-loop p n x₀ d₀ i₀ x d i = (i ≤ n) × (length d ≡ 24) × Lead (PlanOf p) n d₀ d i x
+Inv-loop p ops x₀ d₀ i₀ x d i = (i ≤ ops) × (length d ≡ mostOperations) × Lead (PlanOf p) ops d₀ d i x
 
 abbrev μ-loop : tie.MeasureT-loop
-μ-loop p n x₀ d₀ i₀ x d i = n - i
+μ-loop p ops x₀ d₀ i₀ x d i = ops - i
 
 narrow-requires : tie.Need-narrow-requires Inv-loop μ-loop
 narrow-requires c κs = search needs

@@ -4,6 +4,7 @@ use mathlib.Core.Path.{_≡_}
 use Prim.Native.Nat.{_<_}
 use lib.ListN.{length}
 use borrow.Author.Needs.{needs}
+use Rattle.sizes.specs.Sizes.{mostOperations}
 use Rattle.laws.specs.Entry.{vec}
 use Rattle.domain.specs.First.{Good, lower-found, lower-less, lower-done, lower-least}
 use Rattle.task.specs.Plan.{PlanOf}
@@ -11,7 +12,7 @@ use Rattle.search.proofs.lowered.Statement.{statement}
 use Rattle.search.proofs.lowered.Tie as tie
 
 abbrev Inv-loop : tie.InvT-loop
-Inv-loop p i d low one best₀ best = (length best ≡ 24) × Good (PlanOf p) (p .ops) d best
+Inv-loop p i d low one best₀ best = (length best ≡ mostOperations) × Good (PlanOf p) (p .ops) d best
 
 abbrev μ-loop : tie.MeasureT-loop
 μ-loop p i d low one best₀ best = vec best i

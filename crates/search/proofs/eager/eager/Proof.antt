@@ -5,6 +5,7 @@ use Prim.Native.Nat.{_-_, _≤_}
 use native.Mathlib.Omega.{arith}
 use lib.ListN.{length}
 use borrow.Author.Needs.{needs}
+use Rattle.sizes.specs.Sizes.{mostOperations}
 use Rattle.laws.specs.Z.{true-false}
 use Rattle.domain.specs.Split.{keeps-self}
 use Rattle.domain.specs.First.{Ahead, ahead-start, ahead-keeps, ahead-pin, ahead-done, first-wider}
@@ -13,10 +14,10 @@ use Rattle.search.proofs.eager.eager.Statement.{statement}
 use Rattle.search.proofs.eager.eager.Tie as tie
 
 abbrev Inv-loop : tie.InvT-loop
-Inv-loop p n d₀ i₀ d i = (i ≤ n) × (length d ≡ 24) × Ahead (PlanOf p) n d₀ d i
+Inv-loop p ops d₀ i₀ d i = (i ≤ ops) × (length d ≡ mostOperations) × Ahead (PlanOf p) ops d₀ d i
 
 abbrev μ-loop : tie.MeasureT-loop
-μ-loop p n d₀ i₀ d i = n - i
+μ-loop p ops d₀ i₀ d i = ops - i
 
 narrow-requires : tie.Need-narrow-requires Inv-loop μ-loop
 narrow-requires c κs = search needs

@@ -1,0 +1,4 @@
+pub mod Saturation
+pub mod SlotLaws
+pub mod BarLaws
+pub mod TrimLaws
