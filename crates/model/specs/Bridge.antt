@@ -1,123 +1,129 @@
--- From the search's task to the plan of the papers: counts in a slot from instances, instances from counts, and the
--- first plan from the first starts. Assumes nothing.
+-- From the search's task to the plan of the papers: instances type by type from those of a plan and back, and the first
+-- plan from the first starts. Assumes nothing.
 use mathlib.Core.Path.{_≡_, refl, sym, ap, subst, _∙_}
 use mathlib.Core.Bool.{Bool, true, false}
 use mathlib.Core.Logic.{_⊎_, inl, inr, ⊎-elim}
 use mathlib.Core.List.{List}
-use Prim.Native.Nat.{ℕ, _+_, _%_, _<_, _≤_}
+use Prim.Native.Nat.{ℕ, _<_, _≤_}
 use native.Mathlib.Omega.{arith}
 use native.Mathlib.Decide.{decLt}
 use lib.IntN.{ℤ}
-use Rattle.sizes.specs.Sizes.{mostStarts}
+use Rattle.sizes.specs.Sizes.{mostTypes, mostStarts}
 use Rattle.laws.specs.Entry.{vec}
-use Rattle.laws.specs.Count.{tally}
 use Rattle.laws.specs.Says.{says-true}
+use Rattle.held_slots.specs.Seated.{SeatedIn}
 use Rattle.sheet.specs.declared.Sheet.{Sheet}
-use Rattle.sheet.specs.Sheet.{InRange, Interval, typeOf, opAt}
-use Rattle.sheet.specs.Facts.{horizon-most, ops-most}
-use Rattle.plan.specs.Rules.{Plan, StartAllowed, Rivals}
-use Rattle.plan.specs.Pairs.{rivals-back}
+use Rattle.sheet.specs.Sheet.{InRange, Interval, Limited, typeAt, typeOf, opAt}
+use Rattle.sheet.specs.Facts.{horizon-most, ops-most, types-most, resource-below}
+use Rattle.plan.specs.Rules.{Plan, StartAllowed}
+use Rattle.plan.specs.Seated.{resourceOf, SeatedAt, plan-seated, seated-below, seated-apart}
 use Rattle.plan.specs.Order.{Less, Same}
 use Rattle.plan.specs.Answers.{First}
 use Rattle.plan.specs.Total.{same-sym, same-trans}
 use Rattle.plan.specs.Local.{plan-local}
-use Rattle.plan.specs.Places.{tally-places}
 use Rattle.domain.specs.Domain.{In, Before, FirstIn}
 use Rattle.task.specs.declared.Task.{Task}
 use Rattle.task.specs.Plan as task
 use Rattle.task.specs.PlanLaws as laws
-use Rattle.instances.specs.Lowest.{lowest-first}
 use Rattle.instances.specs.Seats.{Seats}
-use Rattle.instances.specs.SeatLaws.{Rival, seats-lowest, seats-below, seats-apart, seats-zero}
+use Rattle.instances.specs.SeatOrder.{seats-before}
 use Rattle.arrays.specs.Cut.{Cut}
 use Rattle.model.specs.Domain.{DomainFor}
 use Rattle.model.specs.Task.{TaskFor}
 use Rattle.model.specs.Ready.{op-in, task-ok, task-meets, meets-task}
 
+-- the first instances for the starts x of a task, if they have any
+abbrev pub SeatsFor : Task → List ℕ → List ℕ → Type 0
+SeatsFor p x u = Seats (p .ops) (task.typeOf p) (task.instancesOf p) (task.busyOf p) (p .interval) (vec x) (vec u)
+
+-- instances of fewer operations, with the same types
+seated-part : (n m : ℕ) (ty ty' : ℕ → ℕ) (l a k r : ℕ) (t u : ℕ → ℕ) → ((i : ℕ) → i < m → i < n) → ((i : ℕ) → i < m → ty i ≡ ty' i)
+    → SeatedIn n ty l a k r t u → SeatedIn m ty' l a k r t u
+seated-part n m ty ty' l a k r t u within same p = record {
+  below = λ i h e. p .below i (within i h) (same i h ∙ e);
+  apart = λ i j h b c. p .apart i j (within i h) (within j b)
+      (record { different = c .different; first = same i h ∙ c .first; second = same j b ∙ c .second; share = c .share });
+}
+
 module _ (s : Sheet) (L : ℕ) (table : List (List ℤ)) (p : Task) (ok : InRange s) (iv : Interval s L) (f : TaskFor s L table p) where
   op-of : {i : ℕ} → i < s .«op_count» → i < p .ops
   op-of h = omega (arith, f .ops-are)
 
-  -- the limit of an operation's type
+  -- the limit of a type, and of an operation's
+  limit-at : (r : ℕ) → r < s .«type_count» → task.instancesOf p r ≡ typeAt s r .instances
+  limit-at r h = f .limits-for .limit r h
+
   limit-of : (i : ℕ) → i < s .«op_count» → task.instancesOf p (task.typeOf p i) ≡ typeOf s i .instances
-  limit-of i h = ap (task.instancesOf p) (f .types-for .type i h) ∙ f .limits-for .limit (opAt s i .resource) (ok .eachOp i h .resource)
+  limit-of i h = ap (task.instancesOf p) (f .types-for .type i h) ∙ limit-at (opAt s i .resource) (resource-below ok i h)
 
-  rivals : (i j : ℕ) → i < j → j < s .«op_count» → task.typeOf p i ≡ task.typeOf p j → 0 < task.instancesOf p (task.typeOf p j) → Rivals s i j
-  rivals i j l h e a = record {
-    different = λ q. omega arith;
-    oneType = sym (f .types-for .type i (omega arith)) ∙ e ∙ f .types-for .type j h;
-    limited = omega (arith, limit-of i (omega arith), ap (task.instancesOf p) e);
-  }
+  -- ---- the rules of one type, in the task and in the sheet
 
-  slots : (a b : ℕ) → a % p .interval ≡ b % p .interval → a % L ≡ b % L
-  slots a b e = subst (λ (l : ℕ). a % l ≡ b % l) (f .interval-is) e
+  module _ (r : ℕ) (h : r < s .«type_count») (t u : ℕ → ℕ) where
+    -- the numbers of the type
+    numbers : {n : ℕ} {ty : ℕ → ℕ} → SeatedIn n ty (p .interval) (task.instancesOf p r) (task.busyOf p r) r t u → SeatedIn n ty L (typeAt s r .instances) (typeAt s r .busy) r t u
+    numbers {n} {ty} q =
+        subst (λ (l : ℕ). SeatedIn n ty l (typeAt s r .instances) (typeAt s r .busy) r t u) (f .interval-is)
+        (subst (λ (a : ℕ). SeatedIn n ty (p .interval) a (typeAt s r .busy) r t u) (limit-at r h)
+        (subst (λ (k : ℕ). SeatedIn n ty (p .interval) (task.instancesOf p r) k r t u) (f .busy-for .each r h) q))
 
-  -- ---- counts from instances
+    numbers-back : {n : ℕ} {ty : ℕ → ℕ} → SeatedIn n ty L (typeAt s r .instances) (typeAt s r .busy) r t u → SeatedIn n ty (p .interval) (task.instancesOf p r) (task.busyOf p r) r t u
+    numbers-back {n} {ty} q =
+        subst (λ (k : ℕ). SeatedIn n ty (p .interval) (task.instancesOf p r) k r t u) (sym (f .busy-for .each r h))
+        (subst (λ (a : ℕ). SeatedIn n ty (p .interval) a (typeAt s r .busy) r t u) (sym (limit-at r h))
+        (subst (λ (l : ℕ). SeatedIn n ty l (typeAt s r .instances) (typeAt s r .busy) r t u) (sym (f .interval-is)) q))
+
+    of-task : task.SeatedFor p r t u → SeatedAt s L t u r
+    of-task q = seated-part (p .ops) (s .«op_count») (task.typeOf p) (resourceOf s) L (typeAt s r .instances) (typeAt s r .busy) r t u (λ i l. op-of l) (λ i l. f .types-for .type i l) (numbers q)
+
+    to-task : SeatedAt s L t u r → task.SeatedFor p r t u
+    to-task q =
+        seated-part (s .«op_count») (p .ops) (resourceOf s) (task.typeOf p) (p .interval) (task.instancesOf p r) (task.busyOf p r) r t u (λ i l. op-in f l) (λ i l. sym (f .types-for .type i (op-in f l)))
+        (numbers-back q)
+
+  -- ---- a plan's own instances
 
   module _ (t u : ℕ → ℕ) (q : Plan s L t u) where
-    room : (r k : ℕ) → 0 < task.instancesOf p r → tally (p .ops) (task.held (task.typeOf p) t (p .interval) r k) ≤ task.instancesOf p r
-    room r k a = tally-places (task.instancesOf p r) (p .ops) (task.held (task.typeOf p) t (p .interval) r k) u below apart
+    seated-of : (r : ℕ) → 0 < task.instancesOf p r → task.SeatedFor p r t u
+    seated-of r a = at (decLt r (s .«type_count»))
       where
-        holds : (i : ℕ) → task.held (task.typeOf p) t (p .interval) r k i ≡ true → (task.typeOf p i ≡ r) × (t i % p .interval ≡ k)
-        holds i = laws.held-yes (task.typeOf p) t (p .interval) r k i
-
-        below : (i : ℕ) → i < p .ops → task.held (task.typeOf p) t (p .interval) r k i ≡ true → u i < task.instancesOf p r
-        below i h e =
-            let z = ap (task.instancesOf p) (holds i e .0) in
-            let w = limit-of i (op-in f h) in
-            omega (arith, q .instance i (op-in f h) .limited (omega arith))
-
-        apart : (i j : ℕ) → i < j → j < p .ops → task.held (task.typeOf p) t (p .interval) r k i ≡ true → task.held (task.typeOf p) t (p .interval) r k j ≡ true → u i ≡ u j → ⊥
-        apart i j l h e d same =
-            let m = holds i e in
-            let n = holds j d in
-            q .apart i j (op-in f (omega arith)) (op-in f h) (rivals i j l (op-in f h) (m .0 ∙ sym (n .0)) (subst (λ (v : ℕ). 0 < task.instancesOf p v) (sym (n .0)) a)) same (slots (t i) (t j) (m .1 ∙ sym (n .1)))
+        at : Dec (r < s .«type_count») → task.SeatedFor p r t u
+        at (yes h) = to-task r h t u (plan-seated s L t u q r (subst (λ (x : ℕ). 0 < x) (limit-at r h) a))
+        at (no h) = absurd (omega (arith, a, f .limits-for .rest r (omega arith)))
 
     pub plan-of : task.PlanOf p t
-    plan-of = record { met = meets-task s L table p ok iv f t (q .dependence); room = room }
+    plan-of = record { met = meets-task s L table p ok iv f t (q .dependence); seated = λ r h a. (u, seated-of r a) }
 
-  -- ---- instances from counts
+  -- ---- instances for starts that have some
 
-  module _ (x u : List ℕ) (seats : Seats p x u) (q : task.PlanOf p (vec x)) (allowed : (i : ℕ) → i < s .«op_count» → StartAllowed s L i (vec x i)) where
-    meet : (i j : ℕ) → i < s .«op_count» → j < s .«op_count» → Rivals s i j → vec x i % L ≡ vec x j % L → Rival p (vec x) i j
-    meet i j h k r o = (
-      record {
-        type = f .types-for .type i h ∙ r .oneType ∙ sym (f .types-for .type j k);
-        slot = subst (λ (l : ℕ). vec x i % l ≡ vec x j % l) (sym (f .interval-is)) o;
-      },
-      subst (λ (a : ℕ). 0 < a) (sym (limit-of j k)) (rivals-back r .limited),
-    )
-
-    split : (i j : ℕ) → i < s .«op_count» → j < s .«op_count» → Rivals s i j → vec u i ≡ vec u j → vec x i % L ≡ vec x j % L → Dec (i < j) → ⊥
-    split i j h k r e o (yes l) = seats-apart p x u seats q i j l (op-of k) (meet i j h k r o) e
-    split i j h k r e o (no l) = seats-apart p x u seats q j i (before i j l (r .different)) (op-of h)
-        (meet j i k h (rivals-back r) (sym o)) (sym e)
-      where
-        before : (a b : ℕ) → ¬ (a < b) → (a ≡ b → ⊥) → b < a
-        before a b n d = at (decLt b a)
-          where
-            at : Dec (b < a) → b < a
-            at (yes z) = z
-            at (no z) = let e : a ≡ b = omega arith in absurd (d e)
+  module _ (x u : List ℕ) (seats : SeatsFor p x u) (q : task.PlanOf p (vec x))
+      (allowed : (i : ℕ) → i < s .«op_count» → StartAllowed s L i (vec x i)) where
+    -- the first instances keep the rules of each limited type
+    seated-at : (i : ℕ) → i < s .«op_count» → Limited s i → SeatedAt s L (vec x) (vec u) (resourceOf s i)
+    seated-at i h l =
+        let r = resourceOf s i in
+        let b = resource-below ok i h in
+        let m : r < mostTypes = omega (arith, b, types-most ok) in
+        let a = subst (λ (y : ℕ). 0 < y) (sym (limit-at r b)) l in
+        let w = q .seated r m a in
+        of-task r b (vec x) (vec u) (seats .limited r m a .seated (w .0) (w .1))
 
     pub plan-from : Plan s L (vec x) (vec u)
     plan-from = record {
       start = allowed;
       dependence = task-meets s L table p ok iv f (vec x) q;
       instance = λ i h. record {
-        limited = λ l. subst (λ (a : ℕ). vec u i < a) (limit-of i h) (seats-below p x u seats q i (op-of h) (subst (λ (a : ℕ). 0 < a) (sym (limit-of i h)) l));
-        unlimited = λ e. seats-zero p x u seats i (op-of h) (limit-of i h ∙ e);
+        limited = λ l. seated-below s L (vec x) (vec u) i h (seated-at i h l);
+        unlimited = λ e. seats .unlimited i (op-of h) (limit-of i h ∙ e);
       };
-      apart = λ i j h k r e o. split i j h k r e o (decLt i j);
+      apart = λ i j h k r e o. seated-apart s L (vec x) (vec u) i h (seated-at i h (r .limited)) j k r e o;
     }
 
-    -- of all instances for these starts the seats come first
+    -- of all instances for these starts they come first
     pub instances-first : (t' u' : ℕ → ℕ) → Plan s L t' u' → Same (s .«op_count») (vec x) t' → Before (p .ops) (vec u) u'
-    instances-first t' u' o e = lowest-first (Rival p (vec x)) (λ k. u' k + 1) (vec u) (p .ops) (seats-lowest p x u seats) u' (record {
-      below = λ k h. omega arith;
-      apart = λ i k l h m same. o .apart i k (op-in f (omega arith)) (op-in f h) (rivals i k l (op-in f h) (m .0 .type) (m .1)) same
-          (sym (ap (λ (v : ℕ). v % L) (e i (op-in f (omega arith)))) ∙ slots (vec x i) (vec x k) (m .0 .slot) ∙ ap (λ (v : ℕ). v % L) (e k (op-in f h)));
-    })
+    instances-first t' u' o e =
+        let own = plan-local s L ok t' u' (vec x) u' (same-sym e) (λ i h. refl) o in
+        seats-before (p .ops) (task.typeOf p) (task.instancesOf p) (task.busyOf p) (p .interval) (vec x) (vec u) (task-ok s L table p ok iv f .type-ok) seats u'
+        (λ r h a. seated-of (vec x) u' own r a) (λ i h z. own .instance i (op-in f h) .unlimited (sym (limit-of i (op-in f h)) ∙ z))
 
   -- ---- the domain
 
@@ -140,7 +146,7 @@ module _ (s : Sheet) (L : ℕ) (table : List (List ℤ)) (p : Task) (ok : InRang
       pub none-found : found ≡ false → (t u : ℕ → ℕ) → Plan s L t u → ⊥
       none-found e t u q = r .none e t (plan-of t u q) (in-domain t (q .start))
 
-      module _ (e : found ≡ true) (y u w : List ℕ) (cy : Cut (s .«op_count») x y) (seats : Seats p y u) (cw : Cut (s .«op_count») u w) where
+      module _ (e : found ≡ true) (y u w : List ℕ) (cy : Cut (s .«op_count») x y) (seats : SeatsFor p y u) (cw : Cut (s .«op_count») u w) where
         plan-y : task.PlanOf p (vec y)
         plan-y = laws.plan-local p (task-ok s L table p ok iv f) (vec x) (vec y) (λ i h. cy .front i (op-in f h)) (r .plan e)
 

@@ -7,7 +7,7 @@ use native.Mathlib.Omega.{arith}
 use native.Mathlib.Decide.{decLt}
 use lib.IntN.{ℤ, pos, _+ℤ_}
 use lib.Signed.{_≤ℤ_}
-use Rattle.sizes.specs.Sizes.{mostInstances, mostStarts}
+use Rattle.sizes.specs.Sizes.{mostTypes, mostInstances, mostBusy, mostStarts}
 use Rattle.laws.specs.Z.{zed, sum, minus}
 use Rattle.dependence.specs.Graph as dependence
 use Rattle.laws.specs.Entry.{cell}
@@ -16,10 +16,10 @@ use Rattle.dependence.specs.Answer.{Lags}
 use Rattle.dependence.specs.Lag.{lags-hold}
 use Rattle.sheet.specs.declared.Sheet.{Sheet}
 use Rattle.sheet.specs.Sheet.{InRange, Interval, edgeAt, graphOf}
-use Rattle.sheet.specs.Facts.{ops-most, edges-most, types-most, cap-most, instances-most, graph-in-range, interval-in-range}
+use Rattle.sheet.specs.Facts.{ops-most, edges-most, types-most, cap-most, instances-most, busy-some, busy-most, graph-in-range, interval-in-range}
 use Rattle.rules.specs.Totals.{total-small}
 use Rattle.task.specs.declared.Task.{Task}
-use Rattle.task.specs.Plan.{fromOf, toOf, totalAt, instancesOf, lagOf, Near, TaskOk, Ready, PlanOf}
+use Rattle.task.specs.Plan.{fromOf, toOf, totalAt, instancesOf, busyOf, lagOf, Near, TaskOk, Ready, PlanOf}
 use Rattle.model.specs.Task.{leastLag, Clipped, TaskFor}
 
 module _ {s : Sheet} {L : ℕ} {table : List (List ℤ)} {p : Task} (f : TaskFor s L table p) where
@@ -39,6 +39,14 @@ module _ (s : Sheet) (L : ℕ) (table : List (List ℤ)) (p : Task) (ok : InRang
   limit-small r (yes l) = omega (arith, f .limits-for .limit r l, instances-most ok r l)
   limit-small r (no l) = omega (arith, f .limits-for .rest r (omega arith))
 
+  busy-from : (r : ℕ) → r < mostTypes → Dec (r < s .«type_count») → 1 ≤ busyOf p r
+  busy-from r h (yes l) = omega (arith, f .busy-for .each r l, busy-some ok r l)
+  busy-from r h (no l) = omega (arith, f .busy-for .rest r (omega arith) h)
+
+  busy-small : (r : ℕ) → r < mostTypes → Dec (r < s .«type_count») → busyOf p r ≤ mostBusy
+  busy-small r h (yes l) = omega (arith, f .busy-for .each r l, busy-most ok r l)
+  busy-small r h (no l) = omega (arith, f .busy-for .rest r (omega arith) h)
+
   pub task-ok : TaskOk p
   task-ok = record {
     ops-ok = omega (arith, f .ops-are, ops-most ok);
@@ -50,6 +58,8 @@ module _ (s : Sheet) (L : ℕ) (table : List (List ℤ)) (p : Task) (ok : InRang
     total-ok = λ e h. subst Near (sym (f .totals-for .each e (edge-in h))) (near e (edge-in h));
     type-ok = λ i h. omega (arith, f .types-for .type i (op-in f h), ok .eachOp i (op-in f h) .resource, types-most ok);
     instances-ok = λ r h. limit-small r (decLt r (s .«type_count»));
+    busy-some = λ r h. busy-from r h (decLt r (s .«type_count»));
+    busy-ok = λ r h. busy-small r h (decLt r (s .«type_count»));
   }
 
   -- the dependences of the task are those of the sheet

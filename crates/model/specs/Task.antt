@@ -5,7 +5,7 @@ use Prim.Native.Nat.{ℕ, _+_, _*_, _<_, _≤_}
 use lib.ListN.{getD}
 use lib.IntN.{ℤ, pos, negsuc}
 use lib.Signed.{_≤ℤ_}
-use Rattle.sizes.specs.Sizes.{mostOperations, mostEdges, mostStarts}
+use Rattle.sizes.specs.Sizes.{mostOperations, mostEdges, mostTypes, mostStarts}
 use Rattle.laws.specs.Entry.{cell}
 use Rattle.dependence.specs.declared.Graph.{Graph}
 use Rattle.dependence.specs.Graph as dependence
@@ -56,6 +56,11 @@ pub record LimitsFor (s : Sheet) (k : ℕ) (limits : List ℕ) : Type 0 where
   pub limit : (r : ℕ) → r < k → getD limits r 0 ≡ typeAt s r .instances
   pub rest : (r : ℕ) → k ≤ r → getD limits r 0 ≡ 0
 
+-- the slots that each of the first k types holds an instance, and 1 past them
+pub record BusyFor (s : Sheet) (k : ℕ) (busy : List ℕ) : Type 0 where
+  pub each : (r : ℕ) → r < k → getD busy r 0 ≡ typeAt s r .busy
+  pub rest : (r : ℕ) → k ≤ r → r < mostTypes → getD busy r 0 ≡ 1
+
 -- the first k lags of a table, row by row
 pub record LagsFor (table : List (List ℤ)) (k : ℕ) (lag : List ℤ) : Type 0 where
   pub lags : (i j : ℕ) → j < mostOperations → i * mostOperations + j < k → Clipped (cell table i j) (getD lag (i * mostOperations + j) (pos 0))
@@ -69,4 +74,5 @@ pub record TaskFor (s : Sheet) (L : ℕ) (table : List (List ℤ)) (p : Task) : 
   pub totals-for : Totals (graphOf s) L (p .total)
   pub types-for : TypesFor s (s .«op_count») (p .resource)
   pub limits-for : LimitsFor s (s .«type_count») (p .instances)
+  pub busy-for : BusyFor s (s .«type_count») (p .busy)
   pub lags-for : LagsFor table pairs (p .lag)

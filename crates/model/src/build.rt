@@ -3,7 +3,7 @@ ghost use mathlib.Core.Path.{_≡_};
 ghost use Prim.Native.Nat.{_≤_};
 ghost use Rattle.sizes.specs.Sizes.{mostOperations, mostEdges, mostTypes, mostIntervals};
 ghost use Rattle.sheet.specs.Sheet.{InRange, Interval, graphOf};
-ghost use Rattle.model.specs.Task.{pairs, SmallLag, Clipped, EndsFor, TypesFor, LimitsFor, LagsFor, TaskFor, EndsWithin};
+ghost use Rattle.model.specs.Task.{pairs, SmallLag, Clipped, EndsFor, TypesFor, LimitsFor, BusyFor, LagsFor, TaskFor, EndsWithin};
 use dependence::Graph;
 use sheet::Sheet;
 use sizes::MOST_EDGES;
@@ -117,6 +117,20 @@ fn limits_of(sheet: Sheet) -> [usize; MOST_TYPES]
     limits
 }
 
+// The slots that each type holds an instance; 1 past the sheet's types.
+fn busy_of(sheet: Sheet) -> [usize; MOST_TYPES]
+    requires { ⌜ sheet .«type_count» ≤ mostTypes ⌝ }
+    ensures { λ r. ⌜ BusyFor sheet (sheet .«type_count») r ⌝ }
+{
+    let n = sheet.type_count;
+    let mut busy = [1usize; MOST_TYPES];
+    for r in 0..n {
+        let t = sheet.types[r];
+        busy[r] = t.busy;
+    }
+    busy
+}
+
 // The pairs that an edge joins are worth a look too.
 fn joined(near: [bool; PAIRS], ends: Ends, count: usize) -> [bool; PAIRS]
     requires { ⌜ EndsWithin count (ends .from) (ends .to) ⌝ }
@@ -133,7 +147,7 @@ fn joined(near: [bool; PAIRS], ends: Ends, count: usize) -> [bool; PAIRS]
 
 // The task of a sheet at an interval, with its graph and the lags of that. Left free: `near`, which only guides the
 // search, how far a lag is below the table's (`Clipped`), and entries past the counts, except that past the types the
-// instances are 0.
+// instances are 0 and held for 1 slot.
 pub fn task_of(
     sheet: Sheet,
     graph: Graph,
@@ -150,6 +164,7 @@ pub fn task_of(
     let near = joined(close, ends, sheet.edge_count);
     let resource = types_of(sheet);
     let instances = limits_of(sheet);
+    let busy = busy_of(sheet);
     let from = ends.from;
     let to = ends.to;
     let total = totals.values;
@@ -163,6 +178,7 @@ pub fn task_of(
         total,
         resource,
         instances,
+        busy,
         lag,
         near,
     }

@@ -19,11 +19,10 @@ use Rattle.plan.specs.Exactly.{decides, accepted-given}
 use Rattle.domain.specs.Domain.{FirstIn}
 use Rattle.task.specs.declared.Task.{Task}
 use Rattle.task.specs.Plan.{PlanOf}
-use Rattle.instances.specs.Seats.{Seats}
+use Rattle.model.specs.Bridge.{SeatsFor, none-found, first-found}
 use Rattle.model.specs.Domain.{DomainFor}
 use Rattle.model.specs.Task.{TaskFor}
 use Rattle.arrays.specs.Cut.{Cut}
-use Rattle.model.specs.Bridge.{none-found, first-found}
 
 -- what question 6 is put after
 pub record FeasibleAt (s : Sheet) (L : ℕ) : Type 0 where
@@ -44,7 +43,7 @@ module _ {s : Sheet} {L : ℕ} (y : FeasibleAt s L) where
     pub denied-answer : found ≡ false → {a : PlanAnswer} → a ≡ refused 6 → IfPlan s L a
     denied-answer e q = at-no (λ h. none-found s L table p (y .accepted .sheet) (y .accepted .interval) f dom d r e (h .starts) (h .instances) (h .plan)) q
 
-    pub given-answer : found ≡ true → (z u w : List ℕ) → Cut (s .«op_count») x z → Seats p z u → Cut (s .«op_count») u w → IfPlan s L (planned z w)
+    pub given-answer : found ≡ true → (z u w : List ℕ) → Cut (s .«op_count») x z → SeatsFor p z u → Cut (s .«op_count») u w → IfPlan s L (planned z w)
     given-answer e z u w cz seats cw =
         let first = first-found s L table p (y .accepted .sheet) (y .accepted .interval) f dom d r e z u w cz seats cw in
         at-yes (record { starts = _; instances = _; plan = first .plan }) (record {

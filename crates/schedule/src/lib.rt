@@ -35,7 +35,10 @@ fn first_plan(sheet: Sheet, graph: Graph, interval: usize) -> PlanAnswer
         let n = sheet.op_count;
         let x = found.starts;
         let starts = arrays::cut(n, x);
-        let u = instances::instances(task, starts);
+        let resource = task.resource;
+        let limits = task.instances;
+        let busy = task.busy;
+        let u = instances::instances(resource, limits, busy, starts, task.ops, task.interval);
         let instances = arrays::cut(n, u);
         return PlanAnswer {
             answer: 0,

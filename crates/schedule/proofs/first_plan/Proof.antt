@@ -37,9 +37,10 @@ cut-requires c κs = search needs
 
 instances-requires : tie.Need-instances-requires
 instances-requires c κs =
-    let t = c .before .before .before .before .before in
+    let t = c .before .before .before .before .before .before .before .before in
     let s = t .before .before in
-    task-ok (s .args .sheet) (s .args .interval) (t .before .lags .result) (t .task-of .result) (s .pre .0 .accepted .sheet) (s .pre .0 .accepted .interval) (t .task-of .ensures)
+    let ok = task-ok (s .args .sheet) (s .args .interval) (t .before .lags .result) (t .task-of .result) (s .pre .0 .accepted .sheet) (s .pre .0 .accepted .interval) (t .task-of .ensures) in
+    (ok .ops-ok, ok .instances-ok)
 
 cut-requires-2 : tie.Need-cut-requires-2
 cut-requires-2 c κs = search needs
@@ -47,7 +48,7 @@ cut-requires-2 c κs = search needs
 returns : tie.Need-returns
 returns c =
     let u = c .before in
-    let y = u .before in
+    let y = u .before .before .before .before in
     let i = y .before .before in
     let f = i .before in
     let d = f .before in

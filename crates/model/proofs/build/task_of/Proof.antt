@@ -29,9 +29,13 @@ types-of-requires c κs = search needs
 limits-of-requires : tie.Need-limits-of-requires
 limits-of-requires c κs = search needs
 
+busy-of-requires : tie.Need-busy-of-requires
+busy-of-requires c κs = search needs
+
 returns : tie.Need-returns
 returns c =
-    let t = c .before .before .before .before in
+    let b = c .before .before .before .before in
+    let t = b .before in
     let l = t .before .before .before .before in
     let w = l .before in
     let p = w .before .before .pre in
@@ -43,6 +47,7 @@ returns c =
       totals-for = totals-for (p .0) (p .2) (p .1) (w .totals .ensures);
       types-for = t .before .types-of .ensures;
       limits-for = t .limits-of .ensures;
+      busy-for = b .busy-of .ensures;
       lags-for = l .lags-of .ensures;
     }
 
@@ -56,4 +61,5 @@ task-of-spec =
     joined-requires
     types-of-requires
     limits-of-requires
+    busy-of-requires
     returns)
