@@ -84,7 +84,8 @@ offering op start u = record { answer = 0; offer = record { operation = op; star
 abbrev pub OfferAt : Sheet → ℕ → Table → ℕ → ℕ → OfferAnswer → Type 0
 OfferAt s L table op start = ToLowest noOffer s L table op start (offering op start)
 
--- question 17: the offered instance is in range and free in the slot, whether it is the lowest or not
+-- question 17: the offered instance is in range and free in every slot that the operation would hold, whether it is the
+-- lowest or not; a limited operation has K at most L
 abbrev pub OfferFree : Sheet → ℕ → Table → Offer → Type 0
 OfferFree s L table o = Free s L table (o .operation) (o .start) (o .instance)
 

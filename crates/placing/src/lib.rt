@@ -122,8 +122,9 @@ fn refuse_offer(answer: usize) -> OfferAnswer
     OfferAnswer { answer, offer }
 }
 
-// Offers an operation at a start the lowest instance that is free there: the sheet's questions, 4, and 10 to 13. The
-// table comes by value, and none goes back.
+// Offers an operation at a start the lowest instance that is free in every slot that it would hold: the sheet's
+// questions, 4, and 10 to 13; a limited operation with K above L is told by 13. The table comes by value, and none goes
+// back.
 // Dependences are not considered, and a start need only lie in the horizon: unlike a plan's, its result may come later,
 // and it may lie outside its window.
 pub fn make_offer(
@@ -153,7 +154,7 @@ pub fn make_offer(
 }
 
 // Books an offer, from this table or from anywhere: places the operation at the start on the offered instance, if that
-// is free there. The sheet's questions, 4, 10 to 12 and 17.
+// is free in every slot that the operation would hold. The sheet's questions, 4, 10 to 12 and 17.
 pub fn book(sheet: Sheet, interval: usize, table: Table, offer: Offer) -> PlaceAnswer
     ensures { λ r. ⌜ BookAt sheet interval table offer r ⌝ }
 {
@@ -182,7 +183,8 @@ pub fn book(sheet: Sheet, interval: usize, table: Table, offer: Offer) -> PlaceA
 
 // ---- placing
 
-// Places an operation at a start on the lowest instance that is free there: what is offered is booked.
+// Places an operation at a start on the lowest instance that is free in every slot that it would hold: what is offered
+// is booked.
 pub fn place(sheet: Sheet, interval: usize, table: Table, op: usize, start: usize) -> PlaceAnswer
     ensures { λ r. ⌜ PlaceAt sheet interval table op start r ⌝ }
 {

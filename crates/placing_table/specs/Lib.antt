@@ -1,5 +1,6 @@
 -- ---- definitions to believe
 pub mod Table
+pub mod Pipelined
 -- ---- laws
 pub mod Entries
 pub mod Vacancies

@@ -36,7 +36,7 @@ Placed table i = placementAt table i .placed ≡ true
 
 -- starts from 0 to H − 1 whatever latency and window, instances as in the rules of a plan, both 0 where nothing is
 -- placed, nothing placed past the sheet's operations; `holds` is what the rules of a plan ask of a start for holding an
--- instance
+-- instance: of a limited type K is at most L
 pub record EntryAllowed (s : Sheet) (L i : ℕ) (p : Placement) : Type 0 where
   pub within : p .placed ≡ true → i < s .«op_count»
   pub start : p .placed ≡ true → p .start < s .horizon
@@ -44,25 +44,26 @@ pub record EntryAllowed (s : Sheet) (L i : ℕ) (p : Placement) : Type 0 where
   pub instance : p .placed ≡ true → InstanceAllowed s i (p .instance)
   pub empty : p .placed ≡ false → (p .start ≡ 0) × (p .instance ≡ 0)
 
--- operation j, a placed rival of op, has the instance u in the slot that op has at this start
+-- operation j, a placed rival of op, holds the instance u in a slot that op would hold at this start
 pub record Taken (s : Sheet) (L : ℕ) (table : Table) (op start u j : ℕ) : Type 0 where
   pub placed : Placed table j
   pub rivals : Rivals s op j
   pub instance : placementAt table j .instance ≡ u
   pub overlap : Overlap s L op start j (placementAt table j .start)
 
--- no placed rival of op has the instance u in the slot that op has at this start
+-- no placed rival of op holds the instance u in a slot that op would hold at this start
 abbrev pub Untaken : Sheet → ℕ → Table → ℕ → ℕ → ℕ → Type 0
 Untaken s L table op start u = (j : ℕ) → Taken s L table op start u j → ⊥
 
--- no rival takes the instance of a placed operation
+-- no rival holds the instance of a placed operation in a slot that this one holds
 abbrev pub Apart : Sheet → ℕ → Table → ℕ → Type 0
 Apart s L table i = Placed table i → Untaken s L table i (placementAt table i .start) (placementAt table i .instance)
 
--- question 10: the placing table is consistent; each entry is allowed, and placed rivals are apart
+-- question 10: the placing table is consistent; each entry is allowed, so that no limited operation is placed with K
+-- above L, and placed rivals are apart
 pub record Consistent (s : Sheet) (L : ℕ) (table : Table) : Type 0 where
   pub entries : (i : ℕ) → EntryAllowed s L i (placementAt table i)
-  -- no two placed rivals with one slot and instance
+  -- no two placed rivals with one instance that hold a slot in common
   pub apart : (i : ℕ) → Apart s L table i
 
 -- ---- placing
@@ -76,13 +77,14 @@ pub record Target (s : Sheet) (op start : ℕ) : Type 0 where
 abbrev pub Unplaced : Table → ℕ → Type 0
 Unplaced table op = placementAt table op .placed ≡ false
 
--- an instance that operation op can get at this start
+-- an instance that operation op can get at this start: a limited operation has K at most L, the instance is one of its
+-- type's, and every slot that op would hold is free of rivals there
 pub record Free (s : Sheet) (L : ℕ) (table : Table) (op start u : ℕ) : Type 0 where
   pub holds : HoldsAllowed s L op start
   pub allowed : InstanceAllowed s op u
   pub untaken : Untaken s L table op start u
 
--- question 13: an instance is free in the slot
+-- question 13: an instance is free in every slot that op would hold
 pub record SomeFree (s : Sheet) (L : ℕ) (table : Table) (op start : ℕ) : Type 0 where
   pub instance : ℕ
   pub free : Free s L table op start instance

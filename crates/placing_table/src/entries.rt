@@ -1,4 +1,5 @@
-// Question 10: whether a table is one of a sheet at an interval, entry by entry and for each two of them.
+// Question 10: whether a table is one of a sheet at an interval, entry by entry and for each two of them, by held
+// slots. A limited operation with K above L is never placed.
 ghost use Prim.Native.Nat.{ℕ, _<_};
 ghost use Rattle.sizes.specs.Sizes.{mostOperations};
 ghost use Rattle.laws.specs.Says.{Says};
@@ -44,7 +45,7 @@ fn entries_allowed(sheet: Sheet, interval: usize, table: Table) -> bool
     true
 }
 
-// Whether operation i, where it is placed, shares its instance with no rival.
+// Whether operation i, where it is placed, shares its instance with no rival in a slot that both hold.
 fn apart(sheet: Sheet, interval: usize, table: Table, i: usize) -> bool
     requires { ⌜ i < mostOperations ⌝ }
     ensures { λ r. ⌜ Says (Apart sheet interval table i) r ⌝ }
@@ -56,7 +57,7 @@ fn apart(sheet: Sheet, interval: usize, table: Table, i: usize) -> bool
     untaken(sheet, interval, table, i, p.start, p.instance)
 }
 
-// Whether no two placed rivals share an instance.
+// Whether no two placed rivals share an instance in a slot that both hold.
 fn all_apart(sheet: Sheet, interval: usize, table: Table) -> bool
     ensures { λ r. ⌜ Says ((i : ℕ) → Apart sheet interval table i) r ⌝ }
 {

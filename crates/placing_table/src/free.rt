@@ -1,4 +1,4 @@
-// What is taken and what is free: the instances that an operation can get at a start.
+// What is taken and what is free: the instances that an operation can get at a start, where it holds one for K slots.
 ghost use Prim.Native.Nat.{_<_};
 ghost use Rattle.sizes.specs.Sizes.{mostOperations};
 ghost use Rattle.laws.specs.Says.{Says};
@@ -9,7 +9,7 @@ use crate::Vacancy;
 use sheet::Sheet;
 use sizes::MOST_OPERATIONS;
 
-// Whether operation j takes the instance from operation op at this start.
+// Whether operation j, a placed rival, holds the instance in a slot that operation op would hold at this start.
 fn takes(
     sheet: Sheet,
     interval: usize,
@@ -35,7 +35,7 @@ fn takes(
     rules::rivals(sheet, op, j)
 }
 
-// Whether no operation takes the instance from operation op at this start.
+// Whether no rival holds the instance in a slot that operation op would hold at this start.
 pub fn untaken(
     sheet: Sheet,
     interval: usize,
@@ -54,8 +54,8 @@ pub fn untaken(
     true
 }
 
-// Whether operation op can get the instance at this start: it may hold one there, and have this one, and nobody takes
-// it.
+// Whether operation op can get the instance at this start: it may hold one there (K is at most L), and have this one,
+// and no rival holds it in a slot that op would hold.
 pub fn is_free(
     sheet: Sheet,
     interval: usize,

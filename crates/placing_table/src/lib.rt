@@ -1,6 +1,6 @@
 // The placing table (modulo reservation table) of a sheet at an interval: which operations are placed, at which start,
-// on which instance; when it is consistent, and which instances are free in it. The services that place an operation
-// are in the crate `placing`.
+// on which instance; when it is consistent, and which instances are free in it. An operation holds its instance for the
+// K slots from its start on. The services that place an operation are in the crate `placing`.
 use sizes::MOST_OPERATIONS;
 
 mod entries; // entries.rt: question 10
