@@ -1,7 +1,6 @@
--- Two plans of one sheet and interval that differ in a limited operation's slot or instance never print alike.
+-- Two plans of one sheet and interval that differ in a limited operation's held slots or instance never print alike.
 -- Assumes nothing.
-use Prim.Native.Nat.{ℕ, zero, suc, _<_}
-use native.Mathlib.Nat.{mod-lt}
+use Prim.Native.Nat.{ℕ, zero, suc, _+_, _%_, _<_}
 use native.Mathlib.Omega.{arith}
 use native.Mathlib.Decide.{ℕ-discrete}
 use mathlib.Core.Path.{_≡_, refl, sym, ap, subst, _∙_}
@@ -12,12 +11,14 @@ use borrow.Author.Tests.{lt-ltb, eqb-true, eq-eqb}
 use Rattle.sizes.specs.Sizes.{mostInstances}
 use Rattle.laws.specs.Entry.{vec}
 use Rattle.laws.specs.Count.{both-true, both-show}
+use Rattle.held_slots.specs.Held.{HeldAt, holdsSlot}
+use Rattle.held_slots.specs.HeldLaws.{held-below, slot-held, held-slot}
 use Rattle.text.specs.Text.{digits}
 use Rattle.sheet.specs.declared.Sheet.{Sheet}
-use Rattle.sheet.specs.Sheet.{Limited, opAt, typeAt}
-use Rattle.sheet.specs.Facts.{ops-most, types-most, resource-below, op-instances-most}
+use Rattle.sheet.specs.Sheet.{Limited, opAt, typeAt, typeOf}
+use Rattle.sheet.specs.Facts.{ops-most, types-most, resource-below, op-instances-most, op-busy-some}
 use Rattle.sheet.specs.Questions.{Accepted}
-use Rattle.plan.specs.Rules.{InstanceAllowed, slot}
+use Rattle.plan.specs.Rules.{InstanceAllowed, Holds}
 use Rattle.placing_table.specs.declared.Placement.{Placement}
 use Rattle.placing_table.specs.declared.Table.{Table}
 use Rattle.placing_table.specs.Table.{placedAt, placementAt}
@@ -28,6 +29,7 @@ use Rattle.page_text.specs.Joining.{split-equal, up-parts}
 use Rattle.page_text.specs.Users.{last-true, last-only}
 use Rattle.page_text.specs.Widths.{lineLength, typeLength, column-wide, columns-wide, slot-parts, slot-long, limited-lines, users-few, few-slots, type-of-long, page-lines}
 use Rattle.page.specs.Answers.{fullTable, planPage, Tabled}
+use Rattle.page.specs.Shows.{ShownAlike}
 use Rattle.page.specs.Tables.{full-at}
 
 -- ---- the text tells who uses each instance
@@ -91,24 +93,24 @@ module _ {s : Sheet} {L : ℕ} (ok : Accepted s L) (one two : Table) where
 -- ---- the page of a plan shows each limited operation
 
 -- an operation of the type `resource`, placed as p, uses the instance a of type r in the slot
-record Uses (L resource : ℕ) (p : Placement) (r slot′ a : ℕ) : Type 0 where
+record Uses (L K resource : ℕ) (p : Placement) (r slot′ a : ℕ) : Type 0 where
   placed : p .placed ≡ true
   oneType : resource ≡ r
-  inSlot : slot L (p .start) ≡ slot′
+  holds : HeldAt L K (p .start) slot′
   instance : p .instance ≡ a
 
-uses-read : (L resource : ℕ) (p : Placement) (r slot′ a : ℕ) → uses L resource p r slot′ a ≡ true → Uses L resource p r slot′ a
-uses-read L resource p r slot′ a e =
-    let w = both-true (reserves L resource p r slot′) (eqb (p .instance) a) e in
-    let v = both-true (p .placed) (cond (eqb resource r) (eqb (slot L (p .start)) slot′) false) (w .0) in
-    let u = both-true (eqb resource r) (eqb (slot L (p .start)) slot′) (v .1) in
-    record { placed = v .0; oneType = eqb-true resource r (u .0); inSlot = eqb-true (slot L (p .start)) slot′ (u .1); instance = eqb-true (p .instance) a (w .1) }
+uses-read : (L K resource : ℕ) (p : Placement) (r slot′ a : ℕ) → uses L K resource p r slot′ a ≡ true → Uses L K resource p r slot′ a
+uses-read L K resource p r slot′ a e =
+    let w = both-true (reserves L K resource p r slot′) (eqb (p .instance) a) e in
+    let v = both-true (p .placed) (cond (eqb resource r) (holdsSlot L K (p .start) slot′) false) (w .0) in
+    let u = both-true (eqb resource r) (holdsSlot L K (p .start) slot′) (v .1) in
+    record { placed = v .0; oneType = eqb-true resource r (u .0); holds = slot-held L K (p .start) slot′ (u .1); instance = eqb-true (p .instance) a (w .1) }
 
-uses-show : (L resource : ℕ) (p : Placement) (r slot′ a : ℕ) → Uses L resource p r slot′ a → uses L resource p r slot′ a ≡ true
-uses-show L resource p r slot′ a h =
-    both-show (reserves L resource p r slot′) (eqb (p .instance) a)
-    (both-show (p .placed) (cond (eqb resource r) (eqb (slot L (p .start)) slot′) false) (h .placed)
-    (both-show (eqb resource r) (eqb (slot L (p .start)) slot′) (eq-eqb resource r (h .oneType)) (eq-eqb (slot L (p .start)) slot′ (h .inSlot))))
+uses-show : (L K resource : ℕ) (p : Placement) (r slot′ a : ℕ) → Uses L K resource p r slot′ a → uses L K resource p r slot′ a ≡ true
+uses-show L K resource p r slot′ a h =
+    both-show (reserves L K resource p r slot′) (eqb (p .instance) a)
+    (both-show (p .placed) (cond (eqb resource r) (holdsSlot L K (p .start) slot′) false) (h .placed)
+    (both-show (eqb resource r) (holdsSlot L K (p .start) slot′) (eq-eqb resource r (h .oneType)) (held-slot L K (p .start) slot′ (h .holds))))
     (eq-eqb (p .instance) a (h .instance))
 
 module _ {s : Sheet} {L : ℕ} (ok : Accepted s L) (ts us : List ℕ) (full : Tabled s L ts us) where
@@ -116,7 +118,7 @@ module _ {s : Sheet} {L : ℕ} (ok : Accepted s L) (ts us : List ℕ) (full : Ta
   table = fullTable (s .«op_count») ts us
 
   abbrev flag : ℕ → ℕ → ℕ → ℕ → Bool
-  flag r slot′ a j = uses L (opAt s j .resource) (placementAt table j) r slot′ a
+  flag r slot′ a j = uses L (typeAt s r .busy) (opAt s j .resource) (placementAt table j) r slot′ a
 
   entry : (i : ℕ) → i < s .«op_count» → placementAt table i ≡ placedAt (vec ts i) (vec us i)
   entry i h = full-at (s .«op_count») ts us (ops-most (ok .sheet)) i h
@@ -125,36 +127,60 @@ module _ {s : Sheet} {L : ℕ} (ok : Accepted s L) (ts us : List ℕ) (full : Ta
   allowed i h = let e = entry i h in
       subst (λ (p : Placement). InstanceAllowed s i (p .instance)) e (full .consistent .entries i .instance (ap (λ (p : Placement). p .placed) e))
 
-  -- the column of a limited operation shows it and no other
-  pub shown : (i : ℕ) → i < s .«op_count» → Limited s i → userOf s L table (opAt s i .resource) (slot L (vec ts i)) (vec us i) ≡ suc i
-  shown i h l =
+  -- in each slot that a limited operation holds its column shows it and no other
+  pub shown : (i : ℕ) → i < s .«op_count» → Limited s i → (b : ℕ) → Holds s L i (vec ts i) b → userOf s L table (opAt s i .resource) b (vec us i) ≡ suc i
+  shown i h l b w =
       let e = entry i h in
       let r = opAt s i .resource in
-      let mine : Uses L r (placementAt table i) r (slot L (vec ts i)) (vec us i) = record { placed = ap (λ (p : Placement). p .placed) e; oneType = refl; inSlot = ap (λ (p : Placement). slot L (p .start)) e; instance = ap (λ (p : Placement). p .instance) e } in
-      last-only (s .«op_count») (flag r (slot L (vec ts i)) (vec us i)) i h (uses-show L r (placementAt table i) r (slot L (vec ts i)) (vec us i) mine)
-      (λ j k f. at j (ℕ-discrete j i) (uses-read L (opAt s j .resource) (placementAt table j) r (slot L (vec ts i)) (vec us i) f))
+      let mine : Uses L (typeAt s r .busy) r (placementAt table i) r b (vec us i) = record {
+        placed = ap (λ (p : Placement). p .placed) e;
+        oneType = refl;
+        holds = held;
+        instance = ap (λ (p : Placement). p .instance) e;
+      } in
+      last-only (s .«op_count») (flag r b (vec us i)) i h (uses-show L (typeAt s r .busy) r (placementAt table i) r b (vec us i) mine)
+      (λ j k f. at j (ℕ-discrete j i) (uses-read L (typeAt s r .busy) (opAt s j .resource) (placementAt table j) r b (vec us i) f))
     where
-      at : (j : ℕ) → Dec (j ≡ i) → Uses L (opAt s j .resource) (placementAt table j) (opAt s i .resource) (slot L (vec ts i)) (vec us i) → j ≡ i
-      at j (yes q) w = q
-      at j (no n) w =
+      held : Holds s L i (placementAt table i .start) b
+      held = subst (λ (p : Placement). Holds s L i (p .start) b) (sym (entry i h)) w
+
+      at : (j : ℕ) → Dec (j ≡ i) → Uses L (typeOf s i .busy) (opAt s j .resource) (placementAt table j) (opAt s i .resource) b (vec us i) → j ≡ i
+      at j (yes q) v = q
+      at j (no n) v =
           let e = entry i h in
           absurd (full .consistent .apart i (ap (λ (p : Placement). p .placed) e) j (record {
-            placed = w .placed;
-            rivals = record { different = λ q. n (sym q); oneType = sym (w .oneType); limited = l };
-            instance = w .instance ∙ sym (ap (λ (p : Placement). p .instance) e);
-            overlap = ap (λ (p : Placement). slot L (p .start)) e ∙ sym (w .inSlot);
+            placed = v .placed;
+            rivals = record { different = λ q. n (sym q); oneType = sym (v .oneType); limited = l };
+            instance = v .instance ∙ sym (ap (λ (p : Placement). p .instance) e);
+            overlap = record {
+              at = b;
+              first = held;
+              second = subst (λ (r : ℕ). HeldAt L (typeAt s r .busy) (placementAt table j .start) b) (sym (v .oneType)) (v .holds);
+            };
           }))
 
-  -- pages that read alike have every limited operation in the same slot on the same instance
-  pub never-alike : (ts′ us′ : List ℕ) → planPage s L ts us ≡ planPage s L ts′ us′ → (i : ℕ) → i < s .«op_count» → Limited s i
-      → (slot L (vec ts i) ≡ slot L (vec ts′ i)) × (vec us i ≡ vec us′ i)
-  never-alike ts′ us′ e i h l =
+  -- another page that reads alike shows it there, too
+  seen : (ts′ us′ : List ℕ) → planPage s L ts us ≡ planPage s L ts′ us′ → (i : ℕ) → i < s .«op_count» → Limited s i
+      → (b : ℕ) → Holds s L i (vec ts i) b → Holds s L i (vec ts′ i) b × (vec us i ≡ vec us′ i)
+  seen ts′ us′ e i h l b held =
       let r = opAt s i .resource in
       let other = fullTable (s .«op_count») ts′ us′ in
       let below = allowed i h .limited l in
-      let same = users-same ok table other r (resource-below (ok .sheet) i h) e (slot L (vec ts i)) (vec us i)
-      (mod-lt (vec ts i) (omega (arith, ok .interval .low))) below (omega (arith, below, op-instances-most (ok .sheet) i h)) in
-      let w = uses-read L r (placementAt other i) r (slot L (vec ts i)) (vec us i)
-      (last-true (s .«op_count») (λ j. uses L (opAt s j .resource) (placementAt other j) r (slot L (vec ts i)) (vec us i)) i (sym same ∙ shown i h l)) in
+      let inside : b < L = held-below (omega (arith, ok .interval .low)) held in
+      let same = users-same ok table other r (resource-below (ok .sheet) i h) e b (vec us i) inside below (omega (arith, below, op-instances-most (ok .sheet) i h)) in
+      let w = uses-read L (typeAt s r .busy) r (placementAt other i) r b (vec us i)
+      (last-true (s .«op_count») (λ j. uses L (typeAt s r .busy) (opAt s j .resource) (placementAt other j) r b (vec us i)) i (sym same ∙ shown i h l b held)) in
       let q = full-at (s .«op_count») ts′ us′ (ops-most (ok .sheet)) i h in
-      (sym (w .inSlot) ∙ ap (λ (p : Placement). slot L (p .start)) q, sym (w .instance) ∙ ap (λ (p : Placement). p .instance) q)
+      (subst (λ (p : Placement). Holds s L i (p .start) b) q (w .holds), sym (w .instance) ∙ ap (λ (p : Placement). p .instance) q)
+
+-- pages of plans that read alike have every limited operation in the same slots on the same instance
+pub never-alike : {s : Sheet} {L : ℕ} → Accepted s L → (ts us ts′ us′ : List ℕ) → Tabled s L ts us → Tabled s L ts′ us′ → planPage s L ts us ≡ planPage s L ts′ us′
+    → (i : ℕ) → i < s .«op_count» → Limited s i → ShownAlike s L i (vec ts i) (vec us i) (vec ts′ i) (vec us′ i)
+never-alike {s} {L} ok ts us ts′ us′ full full′ e i h l = record {
+  held = λ b w. seen ok ts us full ts′ us′ e i h l b w .0;
+  back = λ b w. seen ok ts′ us′ full′ ts us (sym e) i h l b w .0;
+  instance = seen ok ts us full ts′ us′ e i h l ((vec ts i + 0) % L) first .1;
+}
+  where
+    first : Holds s L i (vec ts i) ((vec ts i + 0) % L)
+    first = record { after = 0; within = op-busy-some (ok .sheet) i h; there = refl }

@@ -1,12 +1,12 @@
 -- Entries past R, N or E are no part of a sheet: sheets that differ only there get the same page. Assumes nothing.
-use Prim.Native.Nat.{ℕ, _≤_}
+use Prim.Native.Nat.{ℕ, _≤_, _<_}
 use mathlib.Core.Path.{_≡_, sym, ap, ap₂, subst, _∙_}
 use mathlib.Core.List.{List}
 use lib.ListN.{length}
 use Rattle.sheet.specs.declared.Sheet.{Sheet}
 use Rattle.sheet.specs.declared.Operation.{Operation}
 use Rattle.sheet.specs.declared.ResourceType.{ResourceType}
-use Rattle.sheet.specs.Sheet.{InRange, Interval, opAt}
+use Rattle.sheet.specs.Sheet.{InRange, Interval, opAt, typeAt}
 use Rattle.sheet.specs.Questions.{Asked, at-no, at-yes, Is}
 use Rattle.sheet.specs.Entries.{SameSheet, turn, range-same, at-interval-same}
 use Rattle.placing_table.specs.declared.Table.{Table}
@@ -19,20 +19,20 @@ use Rattle.page_text.specs.Widths.{linesTo, page-lines}
 use Rattle.page.specs.Answers.{fullTable, planPage, Fits, Tabled, IfTabled, PageAnswer, pageRefused, printed, PageAt}
 
 module _ {s s' : Sheet} (e : SameSheet s s') (L : ℕ) where
-  user-same : (table : Table) (r slot′ a : ℕ) → userOf s L table r slot′ a ≡ userOf s' L table r slot′ a
-  user-same table r slot′ a =
-      last-same (s .«op_count») (λ i. uses L (opAt s i .resource) (placementAt table i) r slot′ a) (λ i. uses L (opAt s' i .resource) (placementAt table i) r slot′ a)
-      (λ i h. ap (λ (o : Operation). uses L (o .resource) (placementAt table i) r slot′ a) (e .eachOp i h))
-      ∙ ap (λ (n : ℕ). lastOf n (λ i. uses L (opAt s' i .resource) (placementAt table i) r slot′ a)) (e .opCount)
+  user-same : (table : Table) (r : ℕ) → r < s .«type_count» → (slot′ a : ℕ) → userOf s L table r slot′ a ≡ userOf s' L table r slot′ a
+  user-same table r l slot′ a =
+      last-same (s .«op_count») (λ i. uses L (typeAt s r .busy) (opAt s i .resource) (placementAt table i) r slot′ a) (λ i. uses L (typeAt s' r .busy) (opAt s' i .resource) (placementAt table i) r slot′ a)
+      (λ i h. ap₂ (λ (t : ResourceType) (o : Operation). uses L (t .busy) (o .resource) (placementAt table i) r slot′ a) (e .eachType r l) (e .eachOp i h))
+      ∙ ap (λ (n : ℕ). lastOf n (λ i. uses L (typeAt s' r .busy) (opAt s' i .resource) (placementAt table i) r slot′ a)) (e .opCount)
 
-  users-same : (table : Table) (r : ℕ) → userOf s L table r ≡ userOf s' L table r
-  users-same table r = λ i slot′ a. user-same table r slot′ a i
+  users-same : (table : Table) (r : ℕ) → r < s .«type_count» → userOf s L table r ≡ userOf s' L table r
+  users-same table r l = λ i slot′ a. user-same table r l slot′ a i
 
   text-same : (table : Table) → pageText s L table ≡ pageText s' L table
   text-same table =
       page-lines s L table
       ∙ up-same (s .«type_count») (typeText s L table) (typeText s' L table)
-      (λ r h. ap₂ (λ (A : ℕ) (user : ℕ → ℕ → ℕ). typeLines L A user r) (ap (λ (t : ResourceType). t .instances) (e .eachType r h)) (users-same table r))
+      (λ r h. ap₂ (λ (A : ℕ) (user : ℕ → ℕ → ℕ). typeLines L A user r) (ap (λ (t : ResourceType). t .instances) (e .eachType r h)) (users-same table r h))
       ∙ ap (linesTo s' L table) (e .typeCount) ∙ sym (page-lines s' L table)
 
   plan-page-same : (ts us : List ℕ) → planPage s L ts us ≡ planPage s' L ts us

@@ -1,5 +1,6 @@
 -- ---- definitions to believe
 pub mod Answers
+pub mod Shows
 -- ---- laws
 pub mod Tables
 pub mod Making
@@ -7,5 +8,6 @@ pub mod Unique
 pub mod OfPlans
 pub mod Alike
 pub mod Determined
+pub mod Starts
 pub mod Paper
 pub mod Entries

@@ -5,10 +5,10 @@ use mathlib.Core.Bool.{Bool, false, cond}
 use mathlib.Core.List.{List, [], _∷_, _++_}
 use lib.Dec.{ltb, eqb}
 use Rattle.sizes.specs.Sizes.{mostInstances}
+use Rattle.held_slots.specs.Held.{holdsSlot}
 use Rattle.text.specs.Text.{digits}
 use Rattle.sheet.specs.declared.Sheet.{Sheet}
 use Rattle.sheet.specs.Sheet.{typeAt, opAt}
-use Rattle.plan.specs.Rules.{slot}
 use Rattle.placing_table.specs.declared.Placement.{Placement}
 use Rattle.placing_table.specs.declared.Table.{Table}
 use Rattle.placing_table.specs.Table.{placementAt}
@@ -55,23 +55,24 @@ typeLines L A user r = cond (ltb 0 A) (headingLine r ++ upTo L (λ slot′. slot
 
 -- ---- who uses an instance in a slot
 
--- an operation of the type `resource`, placed as p, has an instance of type r in the slot
-abbrev pub reserves : ℕ → ℕ → Placement → ℕ → ℕ → Bool
-reserves L resource p r slot′ = cond (p .placed) (cond (eqb resource r) (eqb (slot L (p .start)) slot′) false) false
+-- an operation of the type `resource`, placed as p, holds an instance of type r in the slot; K is the count of slots
+-- that an instance of r stays busy
+abbrev pub reserves : ℕ → ℕ → ℕ → Placement → ℕ → ℕ → Bool
+reserves L K resource p r slot′ = cond (p .placed) (cond (eqb resource r) (holdsSlot L K (p .start) slot′) false) false
 
 -- and it is the instance a
-abbrev pub uses : ℕ → ℕ → Placement → ℕ → ℕ → ℕ → Bool
-uses L resource p r slot′ a = cond (reserves L resource p r slot′) (eqb (p .instance) a) false
+abbrev pub uses : ℕ → ℕ → ℕ → Placement → ℕ → ℕ → ℕ → Bool
+uses L K resource p r slot′ a = cond (reserves L K resource p r slot′) (eqb (p .instance) a) false
 
 -- the last of the first n operations that has the flag, plus 1; 0 where none has
 unfoldable pub lastOf : ℕ → (ℕ → Bool) → ℕ
 lastOf zero flag = 0
 lastOf (suc n) flag = cond (flag n) (suc n) (lastOf n flag)
 
--- the operation that uses the instance a of type r in the slot, plus 1, and 0 where it is unused; in a consistent table
--- no two operations use one
+-- the operation that uses the instance a of type r in the slot, plus 1, and 0 where it is unused: each slot that an
+-- operation holds shows it; in a consistent table no two operations use one
 abbrev pub userOf : Sheet → ℕ → Table → ℕ → ℕ → ℕ → ℕ
-userOf s L table r slot′ a = lastOf (s .«op_count») (λ i. uses L (opAt s i .resource) (placementAt table i) r slot′ a)
+userOf s L table r slot′ a = lastOf (s .«op_count») (λ i. uses L (typeAt s r .busy) (opAt s i .resource) (placementAt table i) r slot′ a)
 
 -- ---- the whole
 

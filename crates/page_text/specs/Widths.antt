@@ -160,7 +160,7 @@ type-long L A user r few l h = at (ltb 0 A)
 
 pub users-few : {s : Sheet} {L : ℕ} → Accepted s L → (table : Table) (r slot′ : ℕ) → FewUsers (userOf s L table r slot′)
 users-few {s} {L} y table r slot′ a h =
-    omega (arith, ops-most (y .sheet), last-bound (s .«op_count») (λ i. uses L (opAt s i .resource) (placementAt table i) r slot′ a))
+    omega (arith, ops-most (y .sheet), last-bound (s .«op_count») (λ i. uses L (typeAt s r .busy) (opAt s i .resource) (placementAt table i) r slot′ a))
 
 pub few-slots : {s : Sheet} {L : ℕ} → Accepted s L → L ≤ mostIntervals
 few-slots y = omega (arith, y .interval .high, cap-most (y .sheet))

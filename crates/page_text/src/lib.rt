@@ -107,7 +107,7 @@ fn put_slots(
     r: usize,
     limit: usize,
 ) -> usize
-    requires { ⌜ Accepted sheet interval × (at + interval * lineLength ≤ length (now out)) ⌝ }
+    requires { ⌜ Accepted sheet interval × (r < mostTypes) × (at + interval * lineLength ≤ length (now out)) ⌝ }
     ensures { λ x. ⌜ Pasted at (upTo interval (λ slot. slotLine limit (userOf sheet interval table r slot) slot)) (now (out .entry)) (now (out .exit)) x ⌝ }
 {
     let mut place = at;

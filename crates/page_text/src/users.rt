@@ -1,7 +1,7 @@
-// Who uses the instances of a type in a slot.
+// Who uses the instances of a type in a slot: each slot that an operation holds shows it.
 ghost use mathlib.Core.Path.{_≡_};
 ghost use Prim.Native.Nat.{_<_, _≤_};
-ghost use Rattle.sizes.specs.Sizes.{mostOperations};
+ghost use Rattle.sizes.specs.Sizes.{mostOperations, mostTypes};
 ghost use Rattle.page_text.specs.Page.{reserves, userOf};
 ghost use Rattle.page_text.specs.Users.{UsersOf, withUser};
 use placing_table::Placement;
@@ -14,9 +14,18 @@ pub struct Users {
     pub of: [usize; MOST_INSTANCES],
 }
 
-// Whether an operation of the type `resource`, placed as p, has an instance of type r in the slot.
-fn reserves(interval: usize, resource: usize, p: Placement, r: usize, slot: usize) -> bool
-    ensures { λ x. ⌜ x ≡ reserves interval resource p r slot ⌝ }
+// Whether an operation of the type `resource`, placed as p, holds an instance of type r in the slot. An instance of r
+// stays busy for `busy` slots.
+fn reserves(
+    interval: usize,
+    busy: usize,
+    resource: usize,
+    p: Placement,
+    r: usize,
+    slot: usize,
+) -> bool
+    requires { ⌜ slot < interval ⌝ }
+    ensures { λ x. ⌜ x ≡ reserves interval busy resource p r slot ⌝ }
 {
     if !p.placed {
         return false;
@@ -24,7 +33,7 @@ fn reserves(interval: usize, resource: usize, p: Placement, r: usize, slot: usiz
     if resource != r {
         return false;
     }
-    rules::slot_of(interval, p.start) == slot
+    held_slots::holds(interval, busy, p.start, slot)
 }
 
 // The users, and operation i on its instance besides, where it is there.
@@ -45,9 +54,11 @@ fn with_user(users: Users, is_there: bool, instance: usize, i: usize) -> Users
 
 // The users of the instances of type r in the slot.
 pub fn users_in(sheet: Sheet, interval: usize, table: Table, r: usize, slot: usize) -> Users
-    requires { ⌜ sheet .«op_count» ≤ mostOperations ⌝ }
+    requires { ⌜ (sheet .«op_count» ≤ mostOperations) × (r < mostTypes) × (slot < interval) ⌝ }
     ensures { λ x. ⌜ UsersOf (userOf sheet interval table r slot) (x .of) ⌝ }
 {
+    let kind = sheet.types[r];
+    let busy = kind.busy;
     let count = sheet.op_count;
     let ops = sheet.ops;
     let entries = table.entries;
@@ -57,7 +68,7 @@ pub fn users_in(sheet: Sheet, interval: usize, table: Table, r: usize, slot: usi
     for i in 0..count {
         let op = ops[i];
         let p = entries[i];
-        let is_there = reserves(interval, op.resource, p, r, slot);
+        let is_there = reserves(interval, busy, op.resource, p, r, slot);
         found = with_user(found, is_there, p.instance, i);
     }
     found

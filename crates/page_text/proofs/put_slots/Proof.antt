@@ -26,11 +26,12 @@ loop-holds : tie.Need-loop-holds Inv-loop μ-loop
 loop-holds c =
     let s = c .before in
     let a = s .args in
-    let h = s .pre .1 in
+    let h = s .pre .2 in
     (omega arith, pasted-as (sym (up-none _)) (pasted-none (a .out .now) (a .at) (omega arith)))
 
 users-in-requires : tie.Need-users-in-requires Inv-loop μ-loop
-users-in-requires c κs = ops-most (c .before .before .before .pre .0 .sheet)
+users-in-requires c κs =
+    let p = c .before .before .before .pre in (ops-most (p .0 .sheet), p .1, omega (arith, c .loop-test .taken))
 
 put-slot-line-requires : tie.Need-put-slot-line-requires Inv-loop μ-loop
 put-slot-line-requires c κs =
@@ -43,7 +44,7 @@ put-slot-line-requires c κs =
     let f = users-few (s .pre .0) (a .table) (a .r) in
     let n = slots-long (a .limit) (userOf (a .sheet) (a .interval) (a .table) (a .r)) f (l .slot) (omega arith) in
     let u = c .before .users-in .ensures in
-    let h = s .pre .1 in
+    let h = s .pre .2 in
     (omega arith, (λ x q. let e = u .each x q in omega (arith, f (l .slot) x q)), omega (arith, p .ends, p .size))
 
 add-slot : tie.Need-add-slot Inv-loop μ-loop
@@ -58,7 +59,7 @@ loop-again c =
     let a = s .args in
     let l = c .before .before .before .before .before .before .loop in
     let t = c .before .before .before .before .before .loop-test .taken in
-    let h = s .pre .1 in
+    let h = s .pre .2 in
     let u = c .before .before .before .before .users-in in
     let e = slot-same (a .limit) (vec (u .result .of)) (userOf (a .sheet) (a .interval) (a .table) (a .r) (l .slot)) (l .slot) (u .ensures .each) in
     (omega arith, pasted-as (sym (up-more (l .slot) (λ x. slotLine (a .limit) (userOf (a .sheet) (a .interval) (a .table) (a .r) x) x))) (pasted-then (omega arith) (l .inv .1) (pasted-as e (c .before .before .put-slot-line .ensures))))

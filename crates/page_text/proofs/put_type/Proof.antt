@@ -41,7 +41,7 @@ put-slots-requires c κs =
     let n : 0 < typeAt (a .t3) (a .r) .instances = omega (arith, c .before .before .before .before .before .if1 .left) in
     let w = limited-length (a .interval) (typeAt (a .t3) (a .r) .instances) n in
     let l = heading-long (a .r) (omega (arith, s .pre .1)) in
-    (s .pre .0, omega (arith, s .pre .2, w, p .ends, p .size))
+    (s .pre .0, s .pre .1, omega (arith, s .pre .2, w, p .ends, p .size))
 
 same-length : tie.Need-same-length
 same-length c = search needs
