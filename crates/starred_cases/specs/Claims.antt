@@ -151,7 +151,7 @@ count-is (suc n) f = rw (← add-one n) (tally-more n f) ∙ ap (λ (c : ℕ). c
 
 bound-same : (s : Sheet) → resourceBound s ≡ boundOf s
 unfolding resourceBound
-bound-same s = λ k. greatest (s .«type_count») (λ r. shareOf (count-is (s .«op_count») (λ i. eqb (opAt s i .resource) r) k) (typeAt s r .instances))
+bound-same s = λ k. greatest (s .«type_count») (λ r. shareOf (count-is (s .«op_count») (λ i. eqb (opAt s i .resource) r) k) (typeAt s r))
 
 -- starts that meet the dependences: no closed walk is bad
 feasible : {s : Sheet} {L : ℕ} {t : ℕ → ℤ} → InRange s → Interval s L → Meets (graphOf s) L t → Feasible s L

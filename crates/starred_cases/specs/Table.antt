@@ -10,8 +10,9 @@ use Rattle.sheet.specs.declared.ResourceType.{ResourceType}
 use Rattle.reader.specs.Read.{sheetOf}
 use Rattle.starred_cases.specs.Claims.{Claim, refuses-outside, refuses-walk, always-refuses-walk, refuses-plan, always-refuses-plan, gives, always-gives, least-is, least-refused, recurrence-is, recurrence-refused, resource-is, pair-out, pair-in}
 
+-- a instances, latency d; an operation holds its instance for one slot: K is 1
 abbrev type : ℕ → ℕ → ResourceType
-type a d = record { instances = a; latency = d }
+type a d = record { instances = a; latency = d; busy = 1 }
 
 -- of type r, with the window of the whole horizon: lo is 0, hi is H − 1
 abbrev op : ℕ → ℕ → Operation

@@ -54,12 +54,16 @@ abbrev pub instanceTest : ℕ → ℕ → Bool
 instanceTest zero u = eqb u 0
 instanceTest (suc a) u = ltb u (suc a)
 
--- two operations of one limited type on one instance in one slot
-abbrev pub clashTest : Sheet → ℕ → List ℕ → List ℕ → ℕ → ℕ → Bool
-clashTest s L ts us i j =
+-- two operations of one limited type on one instance
+abbrev pub sharesTest : Sheet → List ℕ → ℕ → ℕ → Bool
+sharesTest s us i j =
     both (not (eqb i j))
     (both (eqb (opAt s i .resource) (opAt s j .resource))
-    (both (ltb 0 (typeOf s i .instances)) (both (eqb (vec us i) (vec us j)) (eqb (vec ts i % L) (vec ts j % L)))))
+    (both (ltb 0 (typeOf s i .instances)) (eqb (vec us i) (vec us j))))
+
+-- i at start t and j at start t' hold no slot in common
+abbrev pub clearTest : Sheet → ℕ → ℕ → ℕ → ℕ → ℕ → Bool
+clearTest s L i t j t' = upTo (typeOf s i .busy) (λ a. upTo (typeOf s j .busy) (λ b. not (eqb ((t + a) % L) ((t' + b) % L))))
 
 -- t is below H, and t plus D is at most H
 abbrev pub horizonTest : ℕ → ℕ → ℕ → Bool
@@ -69,25 +73,32 @@ horizonTest H D t = both (ltb t H) (leb (t + D) H)
 abbrev pub windowTest : ℕ → ℕ → ℕ → Bool
 windowTest lo hi t = both (leb lo t) (leb t hi)
 
--- start: inside the horizon and inside the window
-abbrev pub startTest : Sheet → ℕ → ℕ → Bool
-startTest s i t = both (horizonTest (s .horizon) (typeOf s i .latency) t) (windowTest (opAt s i .lo) (opAt s i .hi) t)
+-- where a limits the type, K is at most L
+abbrev pub holdTest : ℕ → ℕ → ℕ → Bool
+holdTest zero K L = true
+holdTest (suc a) K L = leb K L
+
+-- start: inside the horizon, inside the window, and an instance can be held
+abbrev pub startTest : Sheet → ℕ → ℕ → ℕ → Bool
+startTest s L i t =
+    both (horizonTest (s .horizon) (typeOf s i .latency) t)
+    (both (windowTest (opAt s i .lo) (opAt s i .hi) t) (holdTest (typeOf s i .instances) (typeOf s i .busy) L))
 
 -- start, for every operation
-abbrev pub startsTest : Sheet → List ℕ → Bool
-startsTest s ts = upTo (s .«op_count») (λ i. startTest s i (vec ts i))
+abbrev pub startsTest : Sheet → ℕ → List ℕ → Bool
+startsTest s L ts = upTo (s .«op_count») (λ i. startTest s L i (vec ts i))
 
 -- instance, for every operation with the A of its type
 abbrev pub instancesTest : Sheet → List ℕ → Bool
 instancesTest s us = upTo (s .«op_count») (λ i. instanceTest (typeOf s i .instances) (vec us i))
 
--- rivals with the same instance have different slots
+-- rivals with the same instance share no held slot
 abbrev pub apartTest : Sheet → ℕ → List ℕ → List ℕ → Bool
-apartTest s L ts us = upTo (s .«op_count») (λ i. upTo (s .«op_count») (λ j. not (clashTest s L ts us i j)))
+apartTest s L ts us = upTo (s .«op_count») (λ i. upTo (s .«op_count») (λ j. cond (sharesTest s us i j) (clearTest s L i (vec ts i) j (vec ts j)) true))
 
 -- the starts and instances keep every rule of a plan at L
 unfoldable pub planTest : Sheet → ℕ → List ℕ → List ℕ → Bool
-planTest s L ts us = both (startsTest s ts) (both (meetsTest s L ts) (both (instancesTest s us) (apartTest s L ts us)))
+planTest s L ts us = both (startsTest s L ts) (both (meetsTest s L ts) (both (instancesTest s us) (apartTest s L ts us)))
 
 -- no instance of a plan is as great as this
 abbrev pub instancesBelow : Sheet → ℕ
@@ -114,7 +125,7 @@ count (suc n) f = count n f + bit (f n)
 
 -- the resource bound (ResMII), by that count
 abbrev pub boundOf : Sheet → ℕ
-boundOf s = greatest (s .«type_count») (λ r. shareOf (count (s .«op_count») (λ i. eqb (opAt s i .resource) r)) (typeAt s r .instances))
+boundOf s = greatest (s .«type_count») (λ r. shareOf (count (s .«op_count») (λ i. eqb (opAt s i .resource) r)) (typeAt s r))
 
 -- ---- bad closed walks
 
