@@ -44,8 +44,8 @@ leastplan_interval leastplan_least_interval(const uint8_t *sheet, size_t sheet_l
 leastplan_text leastplan_plan_text(
     const uint8_t *sheet, size_t sheet_length, size_t interval, uint8_t *buffer, size_t room);
 
-/* Which operation of a rival pair has the smaller slot in the first plan at the interval. The operations i < j are
-   pair j * (j - 1) / 2 + i. The number is 0 for the same slot, 1 if i has the smaller one, 2 if j has.
+/* Which operation of a rival pair starts in the smaller slot in the first plan at the interval. The operations i < j
+   are pair j * (j - 1) / 2 + i. The number is 0 for the same slot, 1 if i has the smaller one, 2 if j has.
      4, 5, 6  as above
      14  no such pair: the number is not below N * (N - 1) / 2
      15  the two operations are not of one limited type */
@@ -55,14 +55,15 @@ leastplan_order leastplan_slot_order(const uint8_t *sheet, size_t sheet_length, 
 #define LEASTPLAN_PAGE_ROOM 23400
 
 /* The page of a plan for the cabinet door: its reservation table, for each limited type a heading and a line for each
-   slot, at the front of the buffer; the number is its count of bytes, (L + 1) * 45 for each limited type at interval L.
-   Operation i starts at starts[i] on instance instances[i]; dependences, windows and the end of the frame are not
-   judged. The bytes past the text, and null pointers, are as with the plan text.
+   slot with the operations that hold its instances there, at the front of the buffer; the number is its count of bytes,
+   (L + 1) * 45 for each limited type at interval L. Operation i starts at starts[i] on instance instances[i];
+   dependences, windows and the end of the frame are not judged. The bytes past the text, and null pointers, are as with
+   the plan text.
      4   as above
      9   the buffer does not take the whole page; this is asked before 10
      10  there is not one start and one instance for each operation, a start is not below the horizon, an instance is
-         not one of its type's (0 for an unlimited type), or two operations of one limited type have the same instance
-         and the same slot (start mod L) */
+         not one of its type's (0 for an unlimited type), two operations of one limited type hold the same instance in
+         the same slot, or an operation of a limited type would hold more slots than the interval has */
 leastplan_text leastplan_page(
     const uint8_t *sheet, size_t sheet_length, size_t interval, const size_t *starts, size_t start_count,
     const size_t *instances, size_t instance_count, uint8_t *buffer, size_t room);

@@ -7,7 +7,7 @@
    A call takes stack: less than 40 KB in every measurement.
 
    The structs are laid out as C lays them out on x86-64: a uint64_t has 8 bytes and stands at a multiple of 8, and the
-   bytes between fields have no meaning. Sizes: type 16, operation 24, edge 32, sheet 3,816, placement 24, table
+   bytes between fields have no meaning. Sizes: type 24, operation 24, edge 32, sheet 3,880, placement 24, table
    576, placed 16. */
 #ifndef LEASTPLAN_PLACING_H
 #define LEASTPLAN_PLACING_H
@@ -22,8 +22,9 @@ extern "C" {
 
 enum { LEASTPLAN_MOST_TYPES = 8, LEASTPLAN_MOST_OPERATIONS = 24, LEASTPLAN_MOST_EDGES = 96 };
 
-/* A type: its instances, 0 to 8 with 0 for unlimited, and its latency in clocks, 0 to 32. */
-typedef struct { uint64_t instances; uint64_t latency; } leastplan_type;
+/* A type: its instances, 0 to 8 with 0 for unlimited, its latency in clocks, 0 to 32, and for how many slots an
+   operation of it holds its instance (its occupancy), 1 to 32. */
+typedef struct { uint64_t instances; uint64_t latency; uint64_t busy; } leastplan_type;
 
 /* An operation: the number of its type, below the count of types, and its window, the first and the last clock at which
    a plan may start it: both below the horizon, lo at most hi. A placement need not keep the window. */
@@ -57,9 +58,10 @@ typedef struct { leastplan_placement entries[LEASTPLAN_MOST_OPERATIONS]; } least
 /* The answer of a placing, and the instance that the operation got; that is 0 with every answer but 0. */
 typedef struct { uint64_t answer; uint64_t instance; } leastplan_placed;
 
-/* Places an operation at a start: it gets the lowest instance that no placed operation of its type has in that slot
-   (the slot is the start's remainder by the interval), or 0 of an unlimited type. Its entry of the table then says so,
-   and no other entry is altered. With any answer but 0 the table holds what it held.
+/* Places an operation at a start: it gets the lowest instance that no placed operation of its type holds in a slot that
+   it would hold, or 0 of an unlimited type. (An operation of a limited type holds as many slots as its type is busy:
+   the remainders by the interval of its start and of the clocks after it.) Its entry of the table then says so, and no
+   other entry is altered. With any answer but 0 the table holds what it held.
    The table must not be null: with a null table, what the call does is undefined. It is written with a refusal too, so
    no other thread may use it during the call. Every number may be any number. The first of these that holds is the
    answer:
@@ -69,10 +71,11 @@ typedef struct { uint64_t answer; uint64_t instance; } leastplan_placed;
      4   the interval is not in 1 to the cap
      10  the table is not one of this sheet at this interval: a start is not below the horizon, an instance is not one
          of the operation's type, a number is not 0 where nothing is placed, something is placed past the sheet's
-         operations, or two placed operations of one limited type share a slot and an instance
+         operations, two placed operations of one limited type hold one instance in one slot, or a placed operation of
+         a limited type would hold more slots than the interval has
      11  the operation is not below the sheet's count of them, or the start is not below the horizon
      12  the operation is placed already
-     13  no instance is free in the slot
+     13  no instance is free in every slot that the operation would hold, or those are more than the interval has
      0   the operation is placed */
 leastplan_placed leastplan_place_into(
     leastplan_table *table, leastplan_sheet sheet, size_t interval, size_t op, size_t start);

@@ -19,7 +19,7 @@ import os
 import random
 import sys
 
-from reference import latency, plain_sheet, resource_bound, sheet_text, window, with_windows
+from reference import latency, plain_sheet, resource_bound, sheet_text, window, with_busy, with_windows
 
 INTERVALS = (0, 1, 2, 3, 4, 5, 6, 64, 65)
 GREATEST_CAP = 64
@@ -254,6 +254,34 @@ def random_windows(pick, count):
         yield fields, [sorted(pick.choice(some) for _ in range(2)) for some in ends]
 
 
+def busy_units():
+    """(fields, K of each type): what K asks of the resource bound, and nothing else asks K of the rest."""
+    ring = [(0, 1, 0, 0), (1, 2, 0, 0), (2, 0, 0, 2)]
+    for k in (1, 2, 3, 32):
+        yield (4, 4, [(1, 1), (0, 1)], [0, 1, 0], ring), [k, 32]  # case A; the unlimited type has no part in it
+        yield (9, 9, [(2, 1)], [0] * 3, []), [k]  # rounded up
+        yield (9, 9, [(8, 1)], [0], []), [k]  # K alone decides
+        yield (9, 9, [(1, 1), (3, 1)], [1] * 4, []), [32, k]  # no operations of the busier type
+    yield (1, 1, [(1, 0)], [0] * 24, []), [32]  # the greatest bound, 768
+    yield (9, 9, [(0, 1)], [0] * 5, []), [32]  # no limited type
+    yield (1, 1, [(7, 1), (5, 1)], [0] * 15 + [1] * 9, []), [3, 4]  # 45 / 7 and 36 / 5
+    yield (1, 1, [(7, 1), (5, 1)], [0] * 14 + [1] * 10, []), [4, 4]  # 56 / 7 and 40 / 5, nothing to round
+
+
+def random_busy(pick, count):
+    for fields in random_sheets(pick, count):
+        yield fields, [pick.choice((1, 2, 3, 4, 7, 31, 32)) for _ in fields[2]]
+
+
+REFUSED_BUSY = [
+    (3, changed("type=0,0,1", "type=0,0,0")),
+    (3, changed("type=0,0,1", "type=1,0,33")),
+    (2, changed("type=0,0,1", "type=0,0")),
+    (2, changed("type=0,0,1", "type=0,0,01")),
+    (2, changed("type=0,0,1", "type=0,0,1,1")),
+]
+
+
 def pieces():
     """Each piece with the lines that are due for it."""
     for fields in itertools.chain(chosen(), random_sheets(random.Random(SEED), 150)):
@@ -265,6 +293,10 @@ def pieces():
     for fields, windows in itertools.chain(floors(), random_windows(random.Random(SEED + 1), 60)):
         yield accepted(with_windows(plain_sheet(*fields), windows))
     for answer, piece in REFUSED_WINDOWS:
+        yield piece, expected(answer, None)
+    for fields, busy in itertools.chain(busy_units(), random_busy(random.Random(SEED + 2), 40)):
+        yield accepted(with_busy(plain_sheet(*fields), busy))
+    for answer, piece in REFUSED_BUSY:
         yield piece, expected(answer, None)
 
 

@@ -19,12 +19,15 @@ typedef struct {
 } loop;
 
 typedef int windows[MOST][2];
+typedef int slots[MOST];
 
-/* The text of a loop with these windows (lo, hi), or with that of the whole horizon for each operation. */
-static void put_sheet(char *text, loop s, windows some)
+/* The text of a loop with these windows (lo, hi), or with that of the whole horizon for each operation, and with types
+   that are busy for these slots, or for one slot each. */
+static void put_busy(char *text, loop s, windows some, slots busy)
 {
     text += sprintf(text, "horizon=%d\ncap=%d\ntypes=%d\n", s.horizon, s.cap, s.type_count);
-    for (int k = 0; k < s.type_count; k++) text += sprintf(text, "type=%d,%d\n", s.types[k][0], s.types[k][1]);
+    for (int k = 0; k < s.type_count; k++)
+        text += sprintf(text, "type=%d,%d,%d\n", s.types[k][0], s.types[k][1], busy ? busy[k] : 1);
     text += sprintf(text, "ops=%d\n", s.op_count);
     for (int i = 0; i < s.op_count; i++) {
         int lo = some ? some[i][0] : 0, hi = some ? some[i][1] : s.horizon - 1;
@@ -37,6 +40,11 @@ static void put_sheet(char *text, loop s, windows some)
     }
 }
 
+static void put_sheet(char *text, loop s, windows some)
+{
+    put_busy(text, s, some, NULL);
+}
+
 /* The cases of document 01, and one operation whose result just meets the horizon or comes late. */
 static char A[TEXT], B[TEXT], NOT_MONOTONE[TEXT], SELF[TEXT], THREE[TEXT], ONE[TEXT], LATE[TEXT];
 
@@ -47,6 +55,11 @@ static char DUE[TEXT], SETTLED[TEXT], NEVER[TEXT];
 /* Case B with lo past hi in the second operation; with lo at the horizon too; after hi at the horizon in the first
    operation; and before an edge out of range. */
 static char UPSIDE_DOWN[TEXT], PAST_TOO[TEXT], AFTER_PAST[TEXT], BEFORE_PAST[TEXT];
+
+/* Two operations on one unit that each holds for two slots. AROUND: three on two units, at clocks 0, 2 and 4 for three
+   slots each: where the interval is 5 or 6 each two of them meet, though no slot is held thrice. LONG: one operation
+   that holds its unit for three slots, and one of an unlimited type. WRONG_BUSY: that with 33. */
+static char BUSY[TEXT], AROUND[TEXT], LONG[TEXT], WRONG_BUSY[TEXT];
 
 static const loop CASE_A = {3, 4, 2, {{1, 1}, {0, 1}}, 3, {0, 1, 0}, 3, {{0, 1, 0, 0}, {1, 2, 0, 0}, {2, 0, 0, 2}}};
 
@@ -78,6 +91,17 @@ static void windowed_sheets(void)
     put_sheet(AFTER_PAST, b, (windows){{0, 4}, {2, 1}, {0, 3}});
     b.edges[2][3] = 9;
     put_sheet(BEFORE_PAST, b, (windows){{0, 3}, {2, 1}, {0, 3}});
+}
+
+static void busy_sheets(void)
+{
+    static const loop two = {6, 4, 1, {{1, 1}}, 2, {0, 0}, 0, {{0}}};
+    static const loop three = {9, 8, 1, {{2, 1}}, 3, {0, 0, 0}, 0, {{0}}};
+    static const loop apart = {6, 4, 2, {{1, 1}, {0, 1}}, 2, {0, 1}, 0, {{0}}};
+    put_busy(BUSY, two, NULL, (slots){2});
+    put_busy(AROUND, three, (windows){{0, 0}, {2, 2}, {4, 4}}, (slots){3});
+    put_busy(LONG, apart, NULL, (slots){3, 32});
+    put_busy(WRONG_BUSY, apart, NULL, (slots){3, 33});
 }
 
 static const char PLAN_A[] = "answer=0\ninterval=3\nat=0,0\nat=1,0\nat=2,0\n";
@@ -202,6 +226,25 @@ static void windows_refused(void)
     EXPECT(least_is(UPSIDE_DOWN, strlen(UPSIDE_DOWN) - 1, 16, 0));
 }
 
+/* K below the interval, equal to it and above. */
+static void busy_units(void)
+{
+    EXPECT(least_is(BUSY, strlen(BUSY), 0, 4));
+    for (uint64_t interval = 1; interval <= 3; interval++) EXPECT(text_is(BUSY, strlen(BUSY), interval, 100, 6, ""));
+    EXPECT(text_is(BUSY, strlen(BUSY), 4, 100, 0, "answer=0\ninterval=4\nat=0,0\nat=2,0\n"));
+    EXPECT(order_is(BUSY, 4, 0, 0, 1));
+    EXPECT(least_is(AROUND, strlen(AROUND), 0, 7));
+    EXPECT(text_is(AROUND, strlen(AROUND), 5, 100, 6, ""));
+    EXPECT(text_is(AROUND, strlen(AROUND), 6, 100, 6, ""));
+    EXPECT(text_is(AROUND, strlen(AROUND), 7, 100, 0, "answer=0\ninterval=7\nat=0,0\nat=2,1\nat=4,0\n"));
+    EXPECT(least_is(LONG, strlen(LONG), 0, 3));
+    EXPECT(text_is(LONG, strlen(LONG), 2, 100, 6, ""));
+    EXPECT(text_is(LONG, strlen(LONG), 3, 100, 0, "answer=0\ninterval=3\nat=0,0\nat=0,0\n"));
+    EXPECT(least_is(WRONG_BUSY, strlen(WRONG_BUSY), 3, 0));
+    EXPECT(text_is(WRONG_BUSY, strlen(WRONG_BUSY), 0, 0, 3, ""));
+    EXPECT(order_is(WRONG_BUSY, 0, SIZE_MAX, 3, 0));
+}
+
 static void intervals(void)
 {
     EXPECT(text_is(A, strlen(A), 0, 100, 4, ""));
@@ -260,6 +303,32 @@ static void pages(void)
     EXPECT(page_is(A, 3, A_PLACES, 500, 0, PAGE_A));
     EXPECT(page_is(SELF, 1, ONE_PLACE, 0, 0, ""));
     EXPECT(page_is(SELF, 1, ONE_PLACE, 100, 0, ""));
+}
+
+/* Each held slot; at interval 3 LONG holds all of them, from whatever start on. */
+static const char PAGE_BUSY[] =
+    "type    0                                   \n"
+    "   0    0                                   \n"
+    "   1    1                                   \n"
+    "   2    1                                   \n"
+    "   3    0                                   \n";
+static const char PAGE_LONG[] =
+    "type    0                                   \n"
+    "   0    0                                   \n"
+    "   1    0                                   \n"
+    "   2    0                                   \n";
+
+static void busy_pages(void)
+{
+    static const places around = {2, {3, 5}, 2, {0}}, alone = {2, {0, 5}, 2, {0}}, later = {2, {4, 0}, 2, {0}};
+    EXPECT(page_is(BUSY, 4, around, 500, 0, PAGE_BUSY));
+    EXPECT(page_is(BUSY, 3, around, 500, 10, ""));
+    EXPECT(page_is(BUSY, 1, around, 500, 10, ""));
+    EXPECT(page_is(LONG, 3, alone, 500, 0, PAGE_LONG));
+    EXPECT(page_is(LONG, 3, later, 500, 0, PAGE_LONG));
+    EXPECT(page_is(LONG, 2, alone, 500, 10, ""));
+    EXPECT(page_is(LONG, 2, alone, 0, 9, ""));
+    EXPECT(page_is(WRONG_BUSY, 0, alone, 0, 3, ""));
 }
 
 static places with_place(places given, size_t i, size_t start, size_t instance)
@@ -390,13 +459,16 @@ int main(void)
 {
     plain_sheets();
     windowed_sheets();
+    busy_sheets();
     valid_sheets();
     windows_decide();
     windows_refused();
+    busy_units();
     intervals();
     buffers();
     pairs();
     pages();
+    busy_pages();
     refused_places();
     order_of_refusals();
     null_pointers();

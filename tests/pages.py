@@ -12,30 +12,42 @@ MOST_COUNT = ref.MOST_OPERATIONS + 1  # one more than there may be
 # The sheet with the longest page, at interval 64: 8 types of 8 instances.
 WIDEST = ref.plain_sheet(128, 64, [(8, 1)] * 8, [i % 8 for i in range(ref.MOST_OPERATIONS)], [])
 
+# The same with units that are busy for as long as they may be.
+BUSIEST = ref.with_busy(WIDEST, [ref.RANGES["K"][1]] * 8)
+
 
 # ---- starts and instances
 
 
-def cell_of(sheet, interval, i, start, unit):
-    """Where the page shows an operation; None where it does not, its type being unlimited."""
-    return (ref.kind(sheet, i), start % interval, unit) if ref.instances_of(sheet, i) else None
+def cells_of(sheet, interval, i, start, unit):
+    """Where the page shows an operation: in each slot that it holds; nowhere where its type is unlimited."""
+    if not ref.instances_of(sheet, i):
+        return frozenset()
+    return frozenset((ref.kind(sheet, i), (start + k) % interval, unit) for k in range(ref.busy(sheet, i)))
 
 
 def shown(sheet, interval, plan):
     """All that the page shows of a plan."""
-    return [cell_of(sheet, interval, i, *at) for i, at in enumerate(zip(*plan))]
+    return [cells_of(sheet, interval, i, *at) for i, at in enumerate(zip(*plan))]
+
+
+def free_places(sheet, interval, i, taken):
+    """The starts and instances of an operation whose cells are not taken; none where it would have one cell twice."""
+    if ref.instances_of(sheet, i) and ref.busy(sheet, i) > interval:
+        return []
+    everywhere = itertools.product(range(sheet.horizon), ref.instance_range(sheet, i))
+    return [at for at in everywhere if not cells_of(sheet, interval, i, *at) & taken]
 
 
 def consistent_plan(rng, sheet, interval):
     """Each operation at any start, on any instance that is free there; None where one finds no place."""
     taken, places = set(), []
     for i in range(len(sheet.ops)):
-        everywhere = itertools.product(range(sheet.horizon), ref.instance_range(sheet, i))
-        free = [at for at in everywhere if cell_of(sheet, interval, i, *at) not in taken]
+        free = free_places(sheet, interval, i, taken)
         if not free:
             return None
         places.append(rng.choice(free))
-        taken |= {cell_of(sheet, interval, i, *places[-1])} - {None}
+        taken |= cells_of(sheet, interval, i, *places[-1])
     return [t for t, _ in places], [u for _, u in places]
 
 
@@ -49,11 +61,11 @@ def every_consistent_plan(sheet, interval):
 
 
 def moved(rng, sheet, interval, plan):
-    """A consistent plan with one operation elsewhere, in a free cell or at another start of its own."""
+    """A consistent plan with one operation elsewhere, in free cells or in some of its own, at this start or another."""
     i = rng.randrange(len(sheet.ops))
-    others = set(shown(sheet, interval, plan)) - {cell_of(sheet, interval, i, plan[0][i], plan[1][i]), None}
-    everywhere = itertools.product(range(sheet.horizon), ref.instance_range(sheet, i))
-    start, unit = rng.choice([at for at in everywhere if cell_of(sheet, interval, i, *at) not in others])
+    cells = shown(sheet, interval, plan)
+    others = frozenset().union(*cells[:i], *cells[i + 1 :])
+    start, unit = rng.choice(free_places(sheet, interval, i, others))
     return with_number(plan[0], i, start), with_number(plan[1], i, unit)
 
 
@@ -80,13 +92,14 @@ def one_of_each(rng, sheet):
 
 
 def one_cell_twice(rng, sheet, interval, plan):
-    """Some operation moves to the cell of a rival, at any start of that slot; nothing where there are no rivals."""
+    """Some operation moves to where a rival holds some or all of its cells; nothing where there are no rivals."""
     starts, units = plan
     pairs = [(i, j) for i in range(len(starts)) for j in range(len(starts)) if ref.rivals(sheet, i, j)]
     if pairs:
         i, j = rng.choice(pairs)
-        start = rng.choice(range(starts[j] % interval, sheet.horizon, interval))
-        yield with_number(starts, i, start), with_number(units, i, units[j])
+        there = cells_of(sheet, interval, j, starts[j], units[j])
+        near = [t for t in range(sheet.horizon) if cells_of(sheet, interval, i, t, units[j]) & there]
+        yield with_number(starts, i, rng.choice(near)), with_number(units, i, units[j])
 
 
 def counted(numbers, count):

@@ -19,13 +19,13 @@ typedef struct {
     leastplan_edge edges[MOST];
 } loop;
 
-/* The sheet of a loop, with the window of the whole horizon for each operation. */
+/* The sheet of a loop, with the window of the whole horizon for each operation and types that are busy for one slot. */
 static leastplan_sheet plain_sheet(loop s)
 {
     leastplan_sheet sheet = {.horizon = s.horizon, .cap = s.cap};
     sheet.type_count = s.type_count;
     for (size_t k = 0; k < s.type_count; k++)
-        sheet.types[k] = (leastplan_type){.instances = s.types[k][0], .latency = s.types[k][1]};
+        sheet.types[k] = (leastplan_type){.instances = s.types[k][0], .latency = s.types[k][1], .busy = 1};
     sheet.op_count = s.op_count;
     for (size_t i = 0; i < s.op_count; i++)
         sheet.ops[i] = (leastplan_operation){.resource = s.kinds[i], .lo = 0, .hi = s.horizon - 1};
@@ -172,6 +172,54 @@ static void outside_windows(void)
     EXPECT(refused(narrow, 2, 3, 0, 12));
 }
 
+static leastplan_sheet with_busy(leastplan_sheet sheet, size_t type, size_t busy)
+{
+    sheet.types[type].busy = busy;
+    return sheet;
+}
+
+static void emptied(void)
+{
+    memset(kept, 0, sizeof *kept);
+    memset(&due, 0, sizeof due);
+}
+
+/* Operations 0, 1 and 3 hold an instance for two slots each; 2 holds nothing. With the table that is made at interval 3
+   another interval finds two on one instance, or an operation that meets itself. */
+static void busy_units(void)
+{
+    leastplan_sheet busy = with_busy(with_busy(FOUR, 0, 2), 1, 32);
+    emptied();
+    EXPECT(refused(busy, 1, 0, 0, 13));
+    EXPECT(placed_of(busy, 1, 2, 3, 0));
+    EXPECT(placed_of(busy, 3, 0, 2, 0));
+    EXPECT(placed_of(busy, 3, 1, 0, 1));
+    EXPECT(refused(busy, 3, 3, 0, 13));
+    EXPECT(refused(busy, 3, 3, 1, 13));
+    EXPECT(refused(busy, 3, 3, 2, 13));
+    EXPECT(refused(busy, 1, 3, 0, 10));
+    EXPECT(placed_of(with_busy(busy, 0, 1), 3, 3, 1, 0));
+    EXPECT(refused(busy, 3, 2, 0, 10));
+    emptied();
+    EXPECT(placed_of(busy, 2, 0, 3, 0));
+    EXPECT(placed_of(busy, 2, 1, 0, 1));
+    EXPECT(refused(busy, 2, 3, 1, 13));
+}
+
+/* K out of its range, of a limited type and of an unlimited one; past the types it is no part of the sheet. */
+static void busy_refused(void)
+{
+    EXPECT(refused(with_busy(FOUR, 0, 0), 2, 3, 0, 3));
+    EXPECT(refused(with_busy(FOUR, 0, 33), 2, 3, 0, 3));
+    EXPECT(refused(with_busy(FOUR, 1, 33), 2, 3, 0, 3));
+    EXPECT(refused(with_busy(FOUR, 1, SIZE_MAX), SIZE_MAX, SIZE_MAX, SIZE_MAX, 3));
+    EXPECT(refused(with_busy(with_window(FOUR, 1, 3, 2), 1, 33), 2, 0, 0, 3));
+    EXPECT(refused(with_busy(FOUR, 0, 32), 2, 2, 0, 10));
+    emptied();
+    EXPECT(refused(with_busy(FOUR, 0, 32), 2, 0, 0, 13));
+    EXPECT(placed_of(with_busy(FOUR, 2, 33), 2, 0, 0, 0));
+}
+
 int main(void)
 {
     FOUR = plain_sheet(RIVALS);
@@ -182,6 +230,8 @@ int main(void)
     handed_in();
     windows_refused();
     outside_windows();
+    busy_units();
+    busy_refused();
     free(kept);
     if (!failures) printf("ok placing into a table kept by C (%d checks)\n", checks);
     return failures != 0;

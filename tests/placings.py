@@ -7,7 +7,7 @@ import itertools
 
 import reference as ref
 import sheets
-from reference import plain_sheet, with_windows
+from reference import plain_sheet, with_busy, with_windows
 from sheets import HUGE
 
 
@@ -161,12 +161,12 @@ def random_tables(rng, sheet, rounds):
         yield from handed_in(entries + [changed], [interval, interval + 1], *target)
 
 
-def random_scripts(seed, *makers):
-    """On sheets that the makers draw by turns: the first few, and the first that have some room."""
+def random_scripts(seed, count, *makers):
+    """On sheets that the makers draw by turns: the first few, and the first so many that have some room."""
     rng = sheets.seeded(seed)
     made = [makers[k % len(makers)](rng) for k in range(600)]
     roomy = [s for s in made if len(s.ops) > 3 and s.horizon > 4 and s.cap > 3]
-    for sheet in made[:6] + roomy[:24]:
+    for sheet in made[:6] + roomy[:count]:
         yield sheet, [line for interval in range(4) for line in steps(interval)]
         yield sheet, list(random_tables(rng, sheet, 12))
 
@@ -209,24 +209,26 @@ def some_table(rng, sheet, interval):
     return table
 
 
-def faulty_tables(rng, sheet, table):
+def faulty_tables(rng, sheet, interval, table):
     """The table with each fault that question 10 names, as far as the sheet has room for it."""
     n, i = len(sheet.ops), rng.randrange(len(sheet.ops))
     faults = [(i, (True, sheet.horizon, 0)), (i, (True, 0, ref.instance_range(sheet, i).stop))]
     faults += [(i, (False, 1, 0)), (i, (False, 0, 1))]
     if n < ref.MOST_OPERATIONS:
         faults += [(n, (True, 0, 0)), (ref.MOST_OPERATIONS - 1, (False, 0, 1))]
+    faults += [(j, (True, 0, 0)) for j in range(n) if ref.instances_of(sheet, j) and ref.busy(sheet, j) > interval][:1]
     yield from (ref.with_entry(table, *fault) for fault in faults)
     for j, k in itertools.combinations(range(n), 2):
         if ref.rivals(sheet, j, k):
-            yield ref.with_entry(ref.with_entry(table, j, (True, 0, 0)), k, (True, 0, 0))
+            starts = range(min(ref.busy(sheet, j), sheet.horizon))
+            yield from (ref.with_entry(ref.with_entry(table, j, (True, 0, 0)), k, (True, t, 0)) for t in starts)
             return
 
 
 def any_table(rng, sheet, interval):
     """One of four has a fault."""
     table = some_table(rng, sheet, interval)
-    return rng.choice(list(faulty_tables(rng, sheet, table))) if rng.random() < 0.25 else table
+    return rng.choice(list(faulty_tables(rng, sheet, interval, table))) if rng.random() < 0.25 else table
 
 
 def any_target(rng, sheet):
@@ -279,10 +281,10 @@ def every_booking(rng, sheet, interval, table):
             yield from tried(table, (b"book", interval, op, start, unit))
 
 
-def random_offers(seed, *makers):
+def random_offers(seed, count, *makers):
     """On sheets that the makers draw by turns: a table that has a fault or none, and all of the above on it."""
     rng = sheets.seeded(seed)
-    for k in range(60):
+    for k in range(count):
         sheet, other = makers[k % len(makers)](rng), sheets.small_sheet(rng)
         interval = rng.randint(1, sheet.cap)
         table = any_table(rng, sheet, interval)
@@ -291,12 +293,12 @@ def random_offers(seed, *makers):
         yield sheet, script + list(every_booking(rng, sheet, interval, table)) + [(b"table", 0)]
 
 
-def offers_on_faults(seed):
+def offers_on_faults(seed, first, make):
     """Every fault of a table, with targets in range and out of it."""
     rng = sheets.seeded(seed)
-    for sheet in [SIX] + [sheets.narrow_sheet(rng) for _ in range(5)]:
+    for sheet in [first] + [make(rng) for _ in range(5)]:
         interval = rng.randint(1, sheet.cap)
-        for table in faulty_tables(rng, sheet, some_table(rng, sheet, interval)):
+        for table in faulty_tables(rng, sheet, interval, some_table(rng, sheet, interval)):
             yield sheet, offer_and_booking(rng, sheet, interval, table)
 
 
@@ -359,10 +361,10 @@ def random_steps(rng, sheet, interval, count):
     return steps
 
 
-def steps_one_by_one(seed, *makers):
+def steps_one_by_one(seed, count, *makers):
     """The same with the table after each step."""
     rng = sheets.seeded(seed)
-    for k in range(30):
+    for k in range(count):
         sheet = makers[k % len(makers)](rng)
         interval, script = rng.randint(1, sheet.cap), []
         for key, *numbers in random_steps(rng, sheet, interval, 3 * len(sheet.ops)):
@@ -371,13 +373,82 @@ def steps_one_by_one(seed, *makers):
 
 
 def offers_and_bookings():
-    for part in (single_bookings(), first_question_of_bookings(), whole_bookings(), offers_on_faults(16)):
+    for part in (single_bookings(), first_question_of_bookings(), whole_bookings()):
         yield from part
-    yield from random_offers(17, sheets.small_sheet, sheets.narrow_sheet, sheets.wide_sheet)
-    yield from steps_one_by_one(18, sheets.small_sheet, sheets.windowed_sheet)
+    yield from offers_on_faults(16, SIX, sheets.narrow_sheet)
+    yield from random_offers(17, 60, sheets.small_sheet, sheets.narrow_sheet, sheets.wide_sheet)
+    yield from steps_one_by_one(18, 30, sheets.small_sheet, sheets.windowed_sheet)
     # As in upside_down: from such a text no sheet is read, and the answers are 3.
     reversed_window = with_windows(SIX, [(3, 2)] + SINGLE_CLOCKS[1:])
     yield reversed_window, [(b"offer", 2, 0, 0), (b"book", 2, 0, 0, 0), (b"offer", 0, 9, 9), (b"book", 0, 9, 9, 9)]
+
+
+# ---- units that stay busy
+
+# As SIX, with more starts and intervals. Operations 0, 1 and 3 hold an instance for two slots, 5 holds its own for
+# three; 2 and 4 are of an unlimited type and hold nothing.
+BUSY = with_busy(plain_sheet(7, 6, [(2, 1), (0, 1), (1, 1)], [0, 0, 1, 0, 1, 2], []), [2, 32, 3])
+
+
+def busy_entries():
+    """One placed entry of each kind at intervals below its K, equal to it and above; and another operation placed."""
+    script = []
+    for i, start in itertools.product((0, 2, 5), (0, 1, 5, 6, 7)):
+        script += handed_in([(i, 1, start, 0)], [1, 2, 3, 4], 1, 5)
+    yield BUSY, script
+
+
+def busy_pairs():
+    """Two rivals at starts all over, on one instance and on two; then a third is placed beside them."""
+    for interval in (2, 3, 4, 5):
+        script = []
+        for t, v, w in itertools.product((0, 1, 6), range(7), (0, 1)):
+            script += handed_in([(0, 1, t, 0), (3, 1, v, w)], [interval], 1, (v + 1) % 7)
+        yield BUSY, script
+
+
+def busy_bookings():
+    """At each interval, below K too, every start offered and every instance booked beside a rival, and beside two."""
+    tables = [{1: (True, 1, 0)}, {1: (True, 1, 0), 3: (True, 4, 1)}, {5: (True, 0, 0)}]
+    for interval, entries in itertools.product((1, 2, 3, 4, 6), tables):
+        table = [entries.get(i, NOTHING) for i in range(ref.MOST_OPERATIONS)]
+        script = given(table)
+        for op, start in itertools.product((0, 5), range(7)):
+            script += [(b"offer", interval, op, start)]
+            script += [line for unit in (0, 1, 2) for line in tried(table, (b"book", interval, op, start, unit))]
+        yield BUSY, script + [(b"offer", interval, 2, 0), (b"book", interval, 2, 6, 0), (b"table", 0)]
+
+
+def busy_to_the_full():
+    """24 operations on 8 units, as many as there is room for and more, by placements in any order of slots."""
+    wide = plain_sheet(128, 64, [(8, 0)], [0] * 24, [])
+    for k, interval in ((21, 64), (22, 64), (32, 64), (32, 32), (32, 31), (21, 63), (5, 17), (1, 3)):
+        starts = [op * k for op in range(24)] if k < 6 else [op % 3 * k + 64 * (op % 2) for op in range(24)]
+        script = [(b"place", interval, op, min(start, 127)) for op, start in enumerate(starts)]
+        yield with_busy(wide, [k]), [(b"new", interval)] + script + [(b"table", 0), (b"consistent", interval)]
+
+
+def busy_in_numbers():
+    """(name, answer, sheet): K out of range beside other faults, worked by hand. An entry past the types is no part of
+    the sheet; one is there in C, where it is 0."""
+    yield "K 0", 3, with_busy(SIX, [0, 1, 1])
+    yield "K 33", 3, with_busy(SIX, [1, 1, 33])
+    yield "K 33 of an unlimited type", 3, with_busy(SIX, [1, 33, 1])
+    yield "K 0 of an unlimited type", 3, with_busy(SIX, [1, 0, 1])
+    yield "the greatest K", 3, with_busy(SIX, [1, 1, MOST])
+    yield "K 32", 0, with_busy(SIX, [32, 32, 32])
+    reversed_window = with_busy(with_operations({4: (1, 1, 0)}), [1, 33, 1])
+    yield "K 33 before 16", 3, reversed_window
+    yield "K 1 and 16", 16, with_busy(reversed_window, [1, 1, 1])
+
+
+def busy_scripts():
+    for part in (busy_entries(), busy_pairs(), busy_bookings(), busy_to_the_full()):
+        yield from part
+    yield from offers_on_faults(24, BUSY, sheets.busy_sheet)
+    yield from random_scripts(21, 4, sheets.busy_sheet, sheets.crowded_sheet)
+    yield from random_offers(22, 30, sheets.busy_sheet, sheets.crowded_sheet, sheets.seated_sheet)
+    yield from steps_one_by_one(23, 30, sheets.busy_sheet, sheets.crowded_sheet)
 
 
 # ---- all of them
@@ -388,12 +459,13 @@ def scripts():
     yield None, steps(1)
     for part in (single_entries(), entry_pairs(), first_question(), whole_tables()):
         yield from part
-    yield from random_scripts(5, sheets.small_sheet)
+    yield from random_scripts(5, 24, sheets.small_sheet)
     yield from late_results()
     yield from outside_windows()
     yield from upside_down()
-    yield from random_scripts(12, sheets.narrow_sheet, sheets.windowed_sheet)
+    yield from random_scripts(12, 24, sheets.narrow_sheet, sheets.windowed_sheet)
     yield from offers_and_bookings()
+    yield from busy_scripts()
 
 
 def as_read(sheet):
@@ -441,7 +513,7 @@ def windows_in_numbers():
     wrong_cap.cap = 65
     yield "16 after a cap out of range", 3, wrong_cap
     wrong_type = with_operations({4: (1, 1, 0)})
-    wrong_type.types[2] = (9, 1)
+    wrong_type.types[2] = (9, 1, 1)
     yield "16 after a type out of range", 3, wrong_type
     short = with_operations({})
     short.horizon = 3
@@ -449,9 +521,9 @@ def windows_in_numbers():
     yield "a single clock", 0, with_operations({0: (0, 3, 3)})
 
 
-def window_scripts():
-    """(sheet, script) of each of those sheets, with an entry past its operations and without."""
-    for _, _, sheet in windows_in_numbers():
+def scripts_in_numbers():
+    """(sheet, script) of each of these sheets, with an entry past its operations and without."""
+    for _, _, sheet in itertools.chain(windows_in_numbers(), busy_in_numbers()):
         yield sheet, [(b"entry", 6, 1, 0, 0)] + steps(2)
         yield sheet, steps(2)
 

@@ -1,20 +1,22 @@
 #!/usr/bin/env python3
-"""Loop sheets and interval plans as document 01 and slips 1 to 5 of 02 word them, by plain enumeration.
+"""Loop sheets and interval plans as document 01 and slips 1 to 6 of 02 word them, by plain enumeration.
 
 Independent of the Rattle crates: nothing here is taken from their code, their algorithms or their
 outputs. Sheets are read with a regular expression for each kind of line; plans, instances and closed
 walks are found by listing candidates in the order of the paper and taking the first that keeps the
 rules. The only cuts are: a prefix of a candidate that already breaks a rule is not continued, more
-operations of a type in one slot than it has instances count as such a break, walks are looked at up
-to N edges (a longer one passes an operation twice, and what lies between is a closed walk: a bad one
-is itself shorter, and any other can be cut out and the sum is no smaller), and a walk that cannot be
-made a bad closed one is not continued. Sums over walks come from a table by length and ends, so all
-but plans can be had of large sheets too; plans are slow, and for small sheets only.
+operations of a type that hold one slot than it has instances count as such a break (no more of them is
+not enough, and the instances are listed), walks are looked at up to N edges (a longer one passes an
+operation twice, and what lies between is a closed walk: a bad one is itself shorter, and any other can
+be cut out and the sum is no smaller), and a walk that cannot be made a bad closed one is not continued.
+Sums over walks come from a table by length and ends, so all but plans can be had of large sheets too;
+plans are slow, and for small sheets only.
 
 As a program:  reference.py [COMMAND [name=number ..]] < SHEET   prints what leastplan prints; with 3< PLAN the
 command page_of_plan too, and with 3< SCRIPT the command table.
 """
 
+import itertools
 import re
 import sys
 
@@ -27,6 +29,7 @@ RANGES = {
     "R": (1, 8),
     "A": (0, 8),
     "D": (0, 32),
+    "K": (1, 32),
     "N": (1, 24),
     "E": (0, 96),
     "d": (-64, 64),
@@ -38,7 +41,7 @@ SIGNED = rb"(0|-?[1-9][0-9]{0,3})"
 
 
 class Sheet:
-    """A sheet as numbers: types are (A, D), operations are (r, lo, hi), edges are (i, j, d, b)."""
+    """A sheet as numbers: types are (A, D, K), operations are (r, lo, hi), edges are (i, j, d, b)."""
 
     def __init__(self, horizon, cap, types, ops, edges):
         self.horizon, self.cap = horizon, cap
@@ -46,8 +49,9 @@ class Sheet:
 
 
 def plain_sheet(horizon, cap, types, kinds, edges):
-    """The sheet with types (A, D) and operations of these kinds whose windows are the whole horizon."""
-    return Sheet(horizon, cap, types, [(r, 0, horizon - 1) for r in kinds], edges)
+    """The sheet with types (A, D), whose K is 1, and operations of these kinds whose windows are the whole horizon."""
+    ops = [(r, 0, horizon - 1) for r in kinds]
+    return Sheet(horizon, cap, [(a, d, 1) for a, d in types], ops, edges)
 
 
 def with_horizon(sheet, horizon):
@@ -60,6 +64,12 @@ def with_windows(sheet, windows):
     """The sheet with these windows (lo, hi), one for each operation."""
     ops = [(r, lo, hi) for r, (lo, hi) in zip(kinds(sheet), windows)]
     return Sheet(sheet.horizon, sheet.cap, sheet.types, ops, sheet.edges)
+
+
+def with_busy(sheet, busy):
+    """The sheet with these K, one for each type."""
+    types = [(a, d, k) for (a, d, _), k in zip(sheet.types, busy)]
+    return Sheet(sheet.horizon, sheet.cap, types, sheet.ops, sheet.edges)
 
 
 def kind(sheet, i):
@@ -77,6 +87,11 @@ def latency(sheet, i):
 
 def instances_of(sheet, i):
     return sheet.types[kind(sheet, i)][0]
+
+
+def busy(sheet, i):
+    """For how many slots an operation of a limited type holds its instance."""
+    return sheet.types[kind(sheet, i)][2]
 
 
 def window(sheet, i):
@@ -105,7 +120,7 @@ def line_answer(values, limits, question=no_question):
 
 
 def type_limits():
-    return [RANGES["A"], RANGES["D"]]
+    return [RANGES["A"], RANGES["D"], RANGES["K"]]
 
 
 def op_limits(horizon, type_count):
@@ -174,7 +189,7 @@ def read_lines(lines):
     horizon = lines.one(b"horizon", "H")
     cap = lines.one(b"cap", "M")
     count = lines.one(b"types", "R")
-    types = [lines.take(b"type", "A D", type_limits()) for _ in range(count)]
+    types = [lines.take(b"type", "A D K", type_limits()) for _ in range(count)]
     n = lines.one(b"ops", "N")
     ops = [lines.take(b"op", "r lo hi", op_limits(horizon, count), window_question) for _ in range(n)]
     e = lines.one(b"edges", "E")
@@ -242,6 +257,36 @@ def rivals(sheet, i, j):
     return i != j and kind(sheet, i) == kind(sheet, j) and instances_of(sheet, i) != 0
 
 
+def held_slots(sheet, interval, i, start):
+    """The slots in which an operation holds its instance, clock by clock, so that one comes again where K is above the
+    interval; none of an unlimited type."""
+    clocks = range(start, start + busy(sheet, i)) if instances_of(sheet, i) else []
+    return [clock % interval for clock in clocks]
+
+
+def meets_itself(sheet, interval, i, start):
+    """It would hold a slot twice."""
+    held = held_slots(sheet, interval, i, start)
+    return len(set(held)) < len(held)
+
+
+def share_a_slot(sheet, interval, i, start, j, other):
+    """An operation at this start and another at that one hold a slot in common."""
+    return not set(held_slots(sheet, interval, i, start)).isdisjoint(held_slots(sheet, interval, j, other))
+
+
+def collide(sheet, interval, i, at, j, other):
+    """Rivals, each at its (start, instance), on one instance in a slot that both hold."""
+    return rivals(sheet, i, j) and at[1] == other[1] and share_a_slot(sheet, interval, i, at[0], j, other[0])
+
+
+def units_kept(sheet, interval, places):
+    """Of {operation: (start, instance)} none meets itself and no two collide."""
+    return not any(meets_itself(sheet, interval, i, start) for i, (start, _) in places.items()) and not any(
+        collide(sheet, interval, i, places[i], j, places[j]) for i, j in itertools.combinations(places, 2)
+    )
+
+
 def instance_range(sheet, i):
     return range(instances_of(sheet, i) or 1)
 
@@ -258,11 +303,7 @@ def is_plan(sheet, interval, starts, units):
         all(starts[i] in start_range(sheet, i) for i in range(n))
         and all(dependence_kept(sheet, interval, e, starts) for e in sheet.edges)
         and all(units[i] in instance_range(sheet, i) for i in range(n))
-        and not any(
-            rivals(sheet, i, j) and units[i] == units[j] and starts[i] % interval == starts[j] % interval
-            for i in range(n)
-            for j in range(i)
-        )
+        and units_kept(sheet, interval, dict(enumerate(zip(starts, units))))
     )
 
 
@@ -295,25 +336,26 @@ def first_list(choices, fits):
     return chosen if extend() else None
 
 
-def slot_has_room(sheet, interval, starts):
-    """No more rivals of the last placed operation in its slot than it has instances."""
+def slots_have_room(sheet, interval, starts):
+    """The last placed operation does not meet itself, and fewer rivals than it has instances hold each of its slots."""
     last = len(starts) - 1
-    slot = starts[last] % interval
-    shared = [i for i in range(last) if rivals(sheet, i, last) and starts[i] % interval == slot]
-    return not shared or len(shared) < instances_of(sheet, last)
+    before = [held_slots(sheet, interval, i, starts[i]) for i in range(last) if rivals(sheet, i, last)]
+    held = held_slots(sheet, interval, last, starts[last])
+    return not meets_itself(sheet, interval, last, starts[last]) and all(
+        sum(slot in rival for rival in before) < instances_of(sheet, last) for slot in held
+    )
 
 
 def first_instances(sheet, interval, starts):
+    """For starts of which none meets itself."""
+    rows = range(len(starts))
+    clashes = [[j for j in range(i) if collide(sheet, interval, i, (starts[i], 0), j, (starts[j], 0))] for i in rows]
+
     def fits(units):
         last = len(units) - 1
-        return not any(
-            rivals(sheet, i, last)
-            and units[i] == units[last]
-            and starts[i] % interval == starts[last] % interval
-            for i in range(last)
-        )
+        return all(units[i] != units[last] for i in clashes[last])
 
-    return first_list([instance_range(sheet, i) for i in range(len(sheet.ops))], fits)
+    return first_list([instance_range(sheet, i) for i in rows], fits)
 
 
 def first_plan(sheet, interval):
@@ -325,7 +367,7 @@ def first_plan(sheet, interval):
         for edge in sheet.edges:
             if max(edge[0], edge[1]) == last and not dependence_kept(sheet, interval, edge, starts):
                 return False
-        if not slot_has_room(sheet, interval, starts):
+        if not slots_have_room(sheet, interval, starts):
             return False
         if len(starts) < len(sheet.ops):
             return True
@@ -431,9 +473,10 @@ def recurrence_bound(sheet):
 
 def resource_bound(sheet):
     bound = 1
-    for r, (a, *_) in enumerate(sheet.types):
-        if a != 0:
-            bound = max(bound, -(-kinds(sheet).count(r) // a))
+    for r, (a, _, k) in enumerate(sheet.types):
+        count = kinds(sheet).count(r)
+        if a != 0 and count != 0:
+            bound = max(bound, k, -(-count * k // a))
     return bound
 
 
@@ -515,6 +558,11 @@ def new_table():
     return [(False, 0, 0)] * MOST_OPERATIONS
 
 
+def places_in(table):
+    """{operation: (start, instance)} of what is placed."""
+    return {i: (start, unit) for i, (placed, start, unit) in enumerate(table) if placed}
+
+
 def consistent(sheet, interval, table):
     n = len(sheet.ops)
     for i, (placed, start, unit) in enumerate(table):
@@ -524,15 +572,7 @@ def consistent(sheet, interval, table):
             return False
         if placed and not (0 <= start < sheet.horizon and unit in instance_range(sheet, i)):
             return False
-    return not any(
-        table[i][0]
-        and table[j][0]
-        and rivals(sheet, i, j)
-        and table[i][2] == table[j][2]
-        and table[i][1] % interval == table[j][1] % interval
-        for i in range(n)
-        for j in range(i)
-    )
+    return units_kept(sheet, interval, places_in(table))
 
 
 def before_placing(sheet, interval, table, op, start):
@@ -547,11 +587,14 @@ def before_placing(sheet, interval, table, op, start):
 
 
 def free_instances(sheet, interval, table, op, start):
-    """Those that the operation could have, in their order, less those of the rivals placed in that slot."""
+    """Those that the operation could have, in their order, less those that rivals hold in a slot that it would hold;
+    none where it would meet itself."""
+    if meets_itself(sheet, interval, op, start):
+        return []
     taken = [
-        table[i][2]
-        for i in range(len(sheet.ops))
-        if table[i][0] and rivals(sheet, i, op) and table[i][1] % interval == start % interval
+        unit
+        for i, (other, unit) in places_in(table).items()
+        if rivals(sheet, i, op) and share_a_slot(sheet, interval, i, other, op, start)
     ]
     return [unit for unit in instance_range(sheet, op) if unit not in taken]
 
@@ -607,9 +650,12 @@ def page_length(sheet, interval):
 
 
 def reservation_rows(sheet, interval, table):
-    """For each limited type its heading and a row for each slot: what each of its instances does there."""
-    placed = [(i, start, unit) for i, (there, start, unit) in enumerate(table) if there]
-    held = {(kind(sheet, i), start % interval, unit): i for i, start, unit in placed}
+    """For each limited type its heading and a row for each slot: which operation holds each of its instances there."""
+    held = {
+        (kind(sheet, i), slot, unit): i
+        for i, (start, unit) in places_in(table).items()
+        for slot in held_slots(sheet, interval, i, start)
+    }
     for r in limited_types(sheet):
         yield "type%5d" % r + " " * 35
         instances = sheet.types[r][0]

@@ -3,7 +3,8 @@
 import random
 import re
 
-from reference import RANGES, earliest_starts, kind, latency, plain_sheet, sheet_text, with_horizon, with_windows
+from reference import RANGES, earliest_starts, kind, latency, plain_sheet, sheet_text
+from reference import with_busy, with_horizon, with_windows
 
 HUGE = 9999  # the greatest number that a line can have
 
@@ -66,8 +67,65 @@ def beside(rng, t, last):
     return min(max(t + rng.randint(-1, 1), 0), last)
 
 
+def busy_sheet(rng):
+    """A small sheet, with windows or without, whose units stay busy: K is 1, a divisor of some interval and none of
+    others, the cap, so that the last interval is just long enough, or more, so that none is."""
+    sheet = rng.choice([small_sheet, small_sheet, late_sheet, narrow_sheet, windowed_sheet])(rng)
+    sheet.cap = min(9, sheet.cap + rng.randint(0, 4))
+    some = [1, 1, 1, 2, 2, 2, 2, 3, 3, min(4, sheet.cap)]
+    return with_busy(sheet, [rng.choice([*some * 2, sheet.cap, rng.choice([sheet.cap + 1, 32])]) for _ in sheet.types])
+
+
+def crowded_sheet(rng):
+    """A small sheet with as many operations of a busy type as its instances take at the cap, A times L / K rounded
+    down, and sometimes one more of another type; a horizon about the cap, and windows now and then."""
+    while True:
+        a, k, interval = rng.choice([1, 2, 2, 3]), rng.choice([2, 2, 3, 3, 4]), rng.randint(2, 7)
+        count = a * (interval // k)
+        if 2 <= count <= 5:
+            break
+    types = [(a, rng.choice([0, 1, 2])), (rng.choice([0, 1]), 1)]
+    kinds = [0] * count + [1] * rng.choice([0, 0, 1])
+    rng.shuffle(kinds)
+    edges = [small_edge(rng, len(kinds)) for _ in range(rng.choice([0, 0, 1, 2, 3]))]
+    horizon = interval + rng.randint(-1, 2)
+    sheet = with_busy(plain_sheet(horizon, interval, types, kinds, edges), [k, rng.choice([1, 2])])
+    if rng.random() < 0.5:
+        return sheet
+    return with_windows(sheet, [any_window(rng, horizon) for _ in kinds])
+
+
+def seated_sheet(rng):
+    """Up to nine operations of one busy type whose starts the windows leave little choice: so much that, round the
+    interval that is the cap or one less, there are instances for them, now and then but for one that is moved. So what
+    is hard is to find the instances."""
+    a, k = rng.choice([2, 2, 3]), rng.choice([2, 3, 3, 4])
+    interval = rng.randint(k + 1, 3 * k + 2)
+    starts = [t for _ in range(a) for t in packed(rng, k, interval)]
+    rng.shuffle(starts)
+    starts = [t + interval * rng.choice([0, 0, 1]) for t in starts[:9]]
+    if rng.random() < 0.5:
+        starts[-1] = rng.randrange(2 * interval)
+    sheet = plain_sheet(max(starts) + 2, interval + rng.randint(0, 1), [(a, 1)], [0] * len(starts), [])
+    wide = min(len(starts), rng.choice([0, 1, 3]))
+    ends = [t + (i < wide) for i, t in enumerate(starts)]
+    return with_windows(with_busy(sheet, [k]), list(zip(starts, ends)))
+
+
+def packed(rng, k, interval):
+    """Starts on one instance, each k slots at least after the one before, round the interval too."""
+    first, at, starts = rng.randrange(interval), 0, []
+    while at + k <= interval:
+        starts.append((first + at) % interval)
+        at += k + rng.choice([0, 0, 1, 2])
+    return starts
+
+
+SMALL = [small_sheet, late_sheet, narrow_sheet, windowed_sheet, busy_sheet, crowded_sheet, seated_sheet]
+
+
 def any_small_sheet(rng):
-    return rng.choice([small_sheet, late_sheet, narrow_sheet, windowed_sheet])(rng)
+    return rng.choice(SMALL)(rng)
 
 
 def small_edge(rng, n):
@@ -87,6 +145,7 @@ def wide_sheet(rng):
     kinds = [rng.randrange(len(types)) for _ in range(n)]
     edges = [(rng.randrange(n), rng.randrange(n), spread(rng, -64, 64), spread(rng, 0, 8)) for _ in range(e)]
     sheet = plain_sheet(spread(rng, 1, 128), spread(rng, 1, 64), types, kinds, edges)
+    sheet = with_busy(sheet, [spread(rng, *RANGES["K"]) for _ in types])
     return with_windows(sheet, [sorted(spread(rng, 0, sheet.horizon - 1) for _ in range(2)) for _ in kinds])
 
 
@@ -96,10 +155,10 @@ def spread(rng, low, high):
 
 def any_numbers(rng):
     """A sheet as numbers, all of which a text can have too: in range, or with one fault or more, most often in a
-    window."""
+    window or a K."""
     sheet = wide_sheet(rng)
     for _ in range(rng.choice([0, 0, 1, 1, 2, 3])):
-        rng.choice([wrong_window, wrong_window, wrong_field])(rng, sheet)
+        rng.choice([wrong_window, wrong_window, wrong_busy, wrong_field])(rng, sheet)
     if rng.random() < 0.2:
         sheet.horizon = rng.choice([0, 129, HUGE, spread(rng, *RANGES["H"])])
         sheet.cap = rng.choice([0, 65, HUGE, spread(rng, *RANGES["M"])])
@@ -118,6 +177,12 @@ def wrong_windows(rng, horizon):
     first, last = sorted(rng.randrange(horizon) for _ in range(2))
     inside = [(last, first), (last, first), (horizon - 1, 0)]
     return inside + [(horizon, first), (first, horizon), (horizon, horizon), (horizon + 1, horizon)]
+
+
+def wrong_busy(rng, sheet):
+    """The K of some type is at either side of an end of its range."""
+    r = rng.randrange(len(sheet.types))
+    sheet.types[r] = (*sheet.types[r][:2], rng.choice([0, 0, 1, 32, 33, 33, HUGE]))
 
 
 def wrong_field(rng, sheet):
@@ -140,6 +205,7 @@ def wrong_count(rng, sheet):
 def damaged(rng, text):
     """The text with one to three edits: a byte changed, put in or taken out, a line moved, numbers replaced."""
     edits = [changed_byte, added_byte, lost_byte, moved_line, other_number, other_window, other_window, cut_short]
+    edits += [other_type]
     data = bytearray(text)
     for _ in range(rng.choice([1, 1, 1, 2, 3])):
         data = rng.choice(edits)(rng, data)
@@ -194,6 +260,22 @@ def other_window(rng, data):
     ends = wrong_windows(rng, int(horizon[1]))
     number = rng.choice([line[1], line[1], line[1], b"8", b"00"])
     return data[: line.start()] + b"op=%s,%d,%d" % (number, *rng.choice(ends)) + data[line.end() :]
+
+
+# What may follow the first two numbers of a type: K at both sides of both ends, spelt in other ways, missing, or
+# followed by more.
+ODD_BUSY = [b",0", b",33", b",9999", b",10000", b"", b",", b",,1", b",01", b",00", b",-1", b",-0", b",+1", b", 1"]
+ODD_BUSY += [b",1,", b",1,1", b",32,32,1,1", b",1", b",32"]
+
+
+def other_type(rng, data):
+    """One type gets another K, most often a wrong one; sometimes its instances are out of range or malformed too."""
+    lines = list(re.finditer(rb"^type=([^,\n]*),([^,\n]*)[^\n]*", data, re.MULTILINE))
+    if not lines:
+        return data
+    line = rng.choice(lines)
+    instances = rng.choice([line[1], line[1], line[1], b"9", b"00"])
+    return data[: line.start()] + b"type=%s,%s" % (instances, line[2]) + rng.choice(ODD_BUSY) + data[line.end() :]
 
 
 def cut_short(rng, data):

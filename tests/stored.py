@@ -14,7 +14,7 @@ import orders
 import placings
 import reference as ref
 import sheets
-from reference import plain_sheet, with_horizon, with_windows
+from reference import plain_sheet, with_busy, with_horizon, with_windows
 
 ROOT = os.path.join(os.path.dirname(os.path.abspath(__file__)), "..")
 LONGEST = ref.SHEET_BYTES + 1  # what leastplan reads at most
@@ -96,6 +96,7 @@ def field_values(key, field):
         (b"types", 0): (1, 8),
         (b"type", 0): (0, 8),
         (b"type", 1): (0, 32),
+        (b"type", 2): (1, 32),
         (b"ops", 0): (1, 24),
         (b"op", 0): (0, len(BASE.types) - 1),
         (b"op", 1): (0, BASE.horizon - 1),
@@ -123,14 +124,15 @@ def boundaries():
 def counted(types, n, e):
     """A sheet with these counts, so that a count at its end is followed by as many lines."""
     edges = [(k % n, (k * 7) % n, -64 + k, k % 9) for k in range(e)]
-    return ref.sheet_text(plain_sheet(128, 64, [(8, 32)] * types, [k % types for k in range(n)], edges))
+    sheet = plain_sheet(128, 64, [(8, 32)] * types, [k % types for k in range(n)], edges)
+    return ref.sheet_text(with_busy(sheet, range(32, 32 - types, -1)))
 
 
 def counts():
     for types, n, e in [(1, 1, 0), (8, 24, 96), (7, 23, 95), (2, 2, 1), (8, 1, 96), (1, 24, 0)]:
         yield counted(types, n, e)
     yield ref.sheet_text(plain_sheet(1, 1, [(0, 0)], [0], []))
-    longest = plain_sheet(128, 64, [(8, 32)] * 8, [7] * 24, [(23, 23, -64, 8)] * 96)
+    longest = with_busy(plain_sheet(128, 64, [(8, 32)] * 8, [7] * 24, [(23, 23, -64, 8)] * 96), [32] * 8)
     yield ref.sheet_text(longest)
     yield ref.sheet_text(with_windows(longest, [(100 + k, 127) for k in range(24)]))
     for text in (counted(8, 24, 96), counted(1, 1, 0)):
@@ -185,8 +187,8 @@ def malformed_lines(line):
 
 def several_faults():
     """2 before 3 within a line; between lines the earlier one decides; what follows the last line comes last."""
-    yield with_line(4, b"type=9,00")
-    yield with_line(4, b"type=9,33")
+    yield with_line(4, b"type=9,00,1")
+    yield with_line(4, b"type=9,33,1")
     yield with_line(0, b"horizon=129").replace(b"cap=6", b"cap=x")
     yield with_line(0, b"horizon=x").replace(b"cap=6", b"cap=65")
     yield b"horizon=129\nrubbish"
@@ -233,12 +235,42 @@ def windows():
     yield with_op_lines(b"op=0,5,4").replace(b"edges=4\n", b"edges=97\n")
     yield with_op_lines(b"op=0,5,4").replace(b"edges=4\n", b"edges=x\n")
     yield with_op_lines(b"op=0,5,4").replace(b"cap=6\n", b"cap=65\n")
-    yield with_op_lines(b"op=0,5,4").replace(b"type=2,0\n", b"type=2,00\n")
+    yield with_op_lines(b"op=0,5,4").replace(b"type=2,0,1\n", b"type=2,00,1\n")
     yield with_op_lines(b"op=0,5,4") + b"x"
     yield with_op_lines(b"op=0,5,4").split(b"op=1")[0]
     yield with_op_lines(b"op=0,5,4").split(b"\nop=1")[0]
     yield with_op_lines(*[b"op=0,0,19"] * 3, b"op=0,1,0")
     yield with_op_lines(*[b"op=0,0,19"] * 3, b"op=0,1,0").split(b"edges=")[0]
+
+
+def with_type_lines(*lines):
+    """The base with other lines of its first types."""
+    first = lines_of(BASE_TEXT).index(b"types=%d" % len(BASE.types)) + 1
+    rows = lines_of(BASE_TEXT)
+    return b"\n".join(rows[:first] + list(lines) + rows[first + len(lines) :]) + b"\n"
+
+
+def busy_types():
+    """K in a line, of a limited type and of an unlimited one, beside 2 and 3 in it and in lines before and after it;
+    none, and more numbers than there are."""
+    spelt = [b"0", b"1", b"2", b"31", b"32", b"33", b"34", b"64", b"9999", b"10000", b"01", b"032", b"-1", b"-0", b"+1"]
+    for k in spelt + [b"", b" 1", b"1 ", b"1,", b"1,1", b"32,1,1"]:
+        yield with_type_lines(b"type=1,1," + k)
+        yield with_type_lines(b"type=0,1," + k)
+        yield with_type_lines(*[b"type=1,1,1"] * 2, b"type=8,32," + k)
+    for rest in (b"1,1", b"1", b"9,1,0", b"1,33,0", b"9,33,33", b"1,00,33", b"00,1,0"):
+        yield with_type_lines(b"type=" + rest)
+    faults = [b"type=1,1,0", b"type=1,1,33", b"type=1,1,01", b"type=1,1", b"type=9,1,1", b"type=1,1,32"]
+    for first in faults:
+        for second in faults:
+            yield with_type_lines(first, second)
+    yield with_type_lines(b"type=1,1,33").replace(b"cap=6\n", b"cap=65\n")
+    yield with_type_lines(b"type=1,1,33").replace(b"cap=6\n", b"cap=x\n")
+    yield with_type_lines(b"type=1,1,33").replace(b"ops=4\n", b"ops=x\n")
+    yield with_type_lines(b"type=1,1,33").replace(b"op=0,0,19\n", b"op=0,19,0\n", 1)
+    yield with_type_lines(b"type=1,1,33") + b"x"
+    yield with_type_lines(b"type=1,1,33").split(b"ops=")[0]
+    yield with_type_lines(b"type=1,1,33").split(b"\ntype=0")[0]
 
 
 def sizes():
@@ -255,14 +287,15 @@ def sizes():
 
 def random_reads(rng, rounds):
     for _ in range(rounds):
-        text = sheets.text_of(rng.choice([sheets.wide_sheet, sheets.small_sheet, sheets.narrow_sheet]), rng)
+        makers = [sheets.wide_sheet, sheets.small_sheet, sheets.narrow_sheet, sheets.busy_sheet]
+        text = sheets.text_of(rng.choice(makers), rng)
         yield text
         yield sheets.damaged(rng, text)[:LONGEST]
         yield sheets.damaged(rng, sheets.text_of(sheets.narrow_sheet, rng))[:LONGEST]
 
 
 def reader_pieces():
-    parts = [boundaries(), frames(), counts(), malformations(), several_faults(), windows(), sizes()]
+    parts = [boundaries(), frames(), counts(), malformations(), several_faults(), windows(), busy_types(), sizes()]
     pieces = [BASE_TEXT]
     for part in parts + [random_reads(sheets.seeded(3), 120)]:
         pieces += part
@@ -347,6 +380,48 @@ def refused_windows():
         yield text.replace(b"op=1,0,2", line.replace(b"op=0", b"op=1")).replace(b"edge=2,0,0,2", b"edge=2,0,0,9")
 
 
+def busy_units():
+    """Units that stay busy: K below the interval, equal to it and above; dividing it and not; of one unit and several;
+    as many operations as there is room for, and one more; and of types that are unlimited or have no operations."""
+    one = plain_sheet(9, 8, [(1, 1)], [0, 0], [])
+    yield from each_busy(one, [[1], [2], [3], [4], [5], [8], [9], [32]])
+    yield from each_busy(plain_sheet(1, 5, [(1, 1)], [0], []), [[4], [5], [6]])
+    yield from each_busy(plain_sheet(7, 7, [(2, 1)], [0] * 5, []), [[1], [2], [3]])
+    yield from each_busy(plain_sheet(6, 6, [(1, 1)], [0] * 3, []), [[2], [3]])
+    yield from each_busy(plain_sheet(7, 7, [(1, 1)], [0] * 4, []), [[2]])
+    yield from each_busy(plain_sheet(3, 3, [(1, 1), (0, 2)], [0, 1, 1], [(0, 1, 0, 0)]), [[1, 32], [2, 32], [3, 1]])
+    yield from each_busy(plain_sheet(3, 3, [(1, 1), (2, 1)], [0, 0], []), [[1, 32], [2, 32]])
+    yield from each_busy(plain_sheet(33, 64, [(1, 1)], [0, 0], []), [[31], [32]])
+    longest = plain_sheet(128, 64, [(1, 32), (8, 0)], [0, 0, 1], [(0, 1, 64, 0)])
+    yield from each_busy(longest, [[32, 32], [32, 1], [1, 32]])
+    chain = plain_sheet(9, 6, [(1, 4), (1, 1)], [0, 1, 0], [(0, 1, 0, 0), (1, 2, 0, 0), (2, 0, 0, 2)])
+    yield from each_busy(chain, [[1, 1], [2, 1], [3, 1], [4, 1], [3, 3]])
+
+
+def counts_not_enough():
+    """Starts by windows; at some interval no slot is held more often than there are instances, and yet none exist."""
+    around = with_busy(plain_sheet(12, 9, [(2, 1)], [0] * 3, []), [3])
+    yield from each_with(around, [[(0, 0), (2, 2), (4, 4)], [(0, 0), (2, 2), (4, 5)], [(0, 1), (8, 8), (10, 10)]])
+    five = with_busy(plain_sheet(5, 6, [(2, 0)], [0] * 5, []), [2])
+    yield from each_with(five, [[(i, i) for i in range(5)], [(2 * i % 5, 2 * i % 5) for i in range(5)]])
+    four = with_busy(plain_sheet(8, 9, [(3, 1)], [0] * 5, []), [5])
+    yield from each_with(four, [[(0, 0), (2, 2), (4, 4), (6, 6), (7, 7)], [(0, 1), (2, 3), (4, 5), (6, 6), (7, 7)]])
+
+
+def each_busy(sheet, lists):
+    """The text of the sheet with each of these lists of K."""
+    return [ref.sheet_text(with_busy(sheet, busy)) for busy in lists]
+
+
+def refused_busy():
+    """Case A with another line of its first type, alone and with another of its second."""
+    text = next(paper_cases())
+    for line in (b"type=1,1,0", b"type=1,1,33", b"type=1,1", b"type=1,1,01", b"type=1,1,1,1", b"type=9,1,0"):
+        yield text.replace(b"type=1,1,1", line)
+        yield text.replace(b"type=1,1,1", line).replace(b"type=0,1,1", b"type=0,1,x")
+        yield text.replace(b"type=0,1,1", line.replace(b"=1", b"=0")).replace(b"edge=2,0,0,2", b"edge=2,0,0,9")
+
+
 def texts(make, seed, count):
     rng = sheets.seeded(seed)
     return [sheets.text_of(make, rng) for _ in range(count)]
@@ -357,6 +432,9 @@ def plan_pieces():
     pieces += list(ends_of_frames()) + texts(sheets.late_sheet, 8, 200)
     pieces += list(binding_windows()) + list(refused_windows())
     pieces += texts(sheets.windowed_sheet, 9, 200) + texts(sheets.narrow_sheet, 10, 100)
+    pieces += list(busy_units()) + list(counts_not_enough()) + list(refused_busy())
+    pieces += texts(sheets.busy_sheet, 19, 300) + texts(sheets.crowded_sheet, 20, 200)
+    pieces += texts(sheets.seated_sheet, 27, 150)
     return list(dict.fromkeys(pieces))
 
 
@@ -374,6 +452,7 @@ tests/check_commands types all of it again.
 PAGE = [
     ("bounds", "phase_locked_loop.sheet"),
     ("bounds", "no_register.sheet"),
+    ("bounds", "divider.sheet"),
     ("starts interval=3", "sample_deadline.sheet"),
     ("starts interval=1", "both_bounds_low.sheet"),
     ("starts interval=4", "horizon_too_short.sheet"),
@@ -382,11 +461,17 @@ PAGE = [
     ("plan interval=4", "three_phases.sheet"),
     ("plan interval=2", "both_bounds_low.sheet"),
     ("plan interval=2", "frame_end.sheet"),
+    ("plan interval=6", "counts_fit.sheet"),
+    ("plan interval=4", "busier_than_interval.sheet"),
     ("order interval=3 pair=0", "sample_deadline.sheet"),
     ("page interval=3", "three_phases.sheet"),
     ("page interval=3", "three_phases.sheet", "three_phases.plan"),
     ("page interval=1", "both_bounds_low.sheet"),
+    ("page interval=7", "counts_fit.sheet"),
+    ("page interval=4", "never_idle.sheet"),
+    ("page interval=4", "never_idle.sheet", "never_idle.plan"),
     ("table interval=3", "three_phases.sheet", "three_phases.script"),
+    ("table interval=8", "divider.sheet", "divider.script"),
     ("check", "sample_deadline.sheet"),
     ("check", "leading_zero.sheet"),
     ("check", "window_reversed.sheet"),
