@@ -11,8 +11,14 @@ packing      as many operations of each type as its instances hold at the wanted
 recurrences  many backedges of distance 1 to 3
 windows      the loops of motor without the edges by which outputs are due; instead ports settle late and outputs have
              a last clock
+busy         loops with backedges and some deadlines over one to three types, most of whose units stay busy for 2 to 7
+             slots; the horizon has room
+busy_tight   the same with a horizon that takes the chains of edges, or an interval if that is longer, and a quarter of
+             an interval more
+busy_blocks  as many operations of a busy type as its instances hold at some interval, A times L / K rounded down,
+             most of them in blocks of two or more that keep the distances they have in one plan there
 
-In every family but windows an operation may start in the whole horizon.
+In every family but windows an operation may start in the whole horizon, and but in those of busy units K is 1.
 
 As a program:  loops.py FAMILY SEED   prints one sheet.
 """
@@ -23,10 +29,11 @@ import sys
 
 sys.path.insert(0, os.path.join(os.path.dirname(os.path.abspath(__file__)), "..", "tests"))
 
-from reference import kind, latency, plain_sheet, resource_bound, sheet_text, with_horizon, with_windows
+from reference import kind, latency, plain_sheet, resource_bound, sheet_text, with_busy, with_horizon, with_windows
 
 OPERATIONS = 24
 MOST_EDGES = 96
+MOST_CAP = 64
 
 
 def earliest(floor, latencies, edges):
@@ -54,9 +61,12 @@ def span(sheet):
 
 def fitted(rng, types, kinds, edges, room):
     """The sheet with a horizon that its span and its fullest type need and some room; cap past the resource bound."""
-    sheet = plain_sheet(1, 1, types, kinds, edges[:MOST_EDGES])
+    return with_room(rng, plain_sheet(1, 1, types, kinds, edges[:MOST_EDGES]), room)
+
+
+def with_room(rng, sheet, room):
     bound = resource_bound(sheet)
-    sheet.cap = min(64, bound + 16)
+    sheet.cap = min(MOST_CAP, bound + 16)
     return with_horizon(sheet, min(128, max(span(sheet), bound) + rng.randint(0, room)))
 
 
@@ -223,7 +233,71 @@ def windows(rng):
     return with_windows(sheet, list(zip(first, last_clocks(rng, sheet, first))))
 
 
-FAMILIES = {f.__name__: f for f in (layered, dense, motor, deadlines, packing, recurrences, windows)}
+MOST_BUSY_BOUND = 48  # so that the cap leaves some intervals past the bound
+MOST_BLOCKS = 30  # slots that the blocks fill; with more some sheets take minutes
+
+
+def busy_loop(rng):
+    """The sheet without its frame. K is drawn again until the bound leaves room below the greatest cap."""
+    count = rng.randint(1, 3)
+    types = [(rng.choice([1, 2, 2, 3, 4]), rng.choice([1, 2, 3, 4, 6])) for _ in range(count)]
+    ops = [rng.randrange(count) for _ in range(OPERATIONS)]
+    edges = []
+    for j in range(1, OPERATIONS):
+        for i in rng.sample(range(max(0, j - 6), j), min(j, rng.choice([0, 1, 1, 2]))):
+            edges.append((i, j, 0, 0))
+    for _ in range(rng.randint(2, 12)):
+        i, j = rng.randrange(OPERATIONS), rng.randrange(OPERATIONS)
+        edges.append((max(i, j), min(i, j), 0, rng.choice([1, 2, 2, 3])))
+    for i, j, _, _ in rng.sample(edges, 4):
+        edges.append((j, i, -types[ops[j]][1] - types[ops[i]][1] - rng.randint(4, 16), 0))
+    sheet = plain_sheet(1, 1, types, ops, edges[:MOST_EDGES])
+    while True:
+        slots = [rng.choice([1, 2, 3, 3, 4, 5, 7]) for _ in types]
+        sheet = with_busy(sheet, slots)
+        if max(slots) > 1 and resource_bound(sheet) <= MOST_BUSY_BOUND:
+            return sheet
+
+
+def busy(rng):
+    return with_room(rng, busy_loop(rng), rng.choice([8, 16, 32]))
+
+
+def busy_tight(rng):
+    sheet = with_room(rng, busy_loop(rng), 3)
+    return with_horizon(sheet, min(128, sheet.horizon + resource_bound(sheet) // 4))
+
+
+def packed_starts(rng, a, k, interval):
+    """Starts on each of the instances, as many as it takes, all slots that are left over in one place."""
+    starts = []
+    for _ in range(a):
+        at, gap = rng.randrange(interval), rng.randrange(interval // k)
+        for part in range(interval // k):
+            starts.append(at % interval + interval * rng.randint(0, 1))
+            at += k + (interval % k if part == gap else 0)
+    rng.shuffle(starts)
+    return starts
+
+
+def busy_blocks(rng):
+    a, k = rng.choice([1, 2, 3, 4]), rng.choice([2, 3, 4, 5, 5, 6, 7])
+    parts = min(OPERATIONS // a, MOST_BLOCKS // k)
+    interval = parts * k + rng.randrange(k)
+    starts = packed_starts(rng, a, k, interval)
+    types, ops = [(a, rng.choice([0, 1, 2, k])), (0, 1)], [0] * len(starts) + [1] * (OPERATIONS - len(starts))
+    edges = [(rng.randrange(i), i, 0, 0) for i in range(len(starts), OPERATIONS)]
+    for i in range(len(starts) - 1):
+        apart, late = starts[i + 1] - starts[i], types[0][1]
+        if rng.random() < (0.8 if i % 2 == 0 else 0.25) and abs(apart) + late <= 64:
+            edges += [(i, i + 1, apart - late, 0), (i + 1, i, -apart - late, 0)]
+    sheet = with_busy(plain_sheet(1, min(MOST_CAP, interval + 8), types, ops, edges), [k, 1])
+    return with_horizon(sheet, max(starts) + types[0][1] + 2 + rng.randint(0, 4))
+
+
+PLAIN = (layered, dense, motor, deadlines, packing, recurrences, windows)
+BUSY = (busy, busy_tight, busy_blocks)
+FAMILIES = {f.__name__: f for f in PLAIN + BUSY}
 
 
 def sheet_of(family, seed):

@@ -7,6 +7,7 @@ use std::io::Read;
 const OPS: usize = 24;
 const STARTS: usize = 128;
 const SLOTS: usize = 64;
+const UNITS: usize = 8;
 const NO_WALK: i32 = -1_000_000;
 
 // Processor time of this thread, in nanoseconds.
@@ -39,22 +40,32 @@ struct Op {
     hi: usize,
 }
 
+struct Type {
+    instances: usize,
+    latency: i32,
+    busy: usize,
+}
+
 struct Sheet {
     horizon: usize,
     cap: usize,
-    types: Vec<(usize, i32)>,
+    types: Vec<Type>,
     ops: Vec<Op>,
     edges: Vec<(usize, usize, i32, i32)>,
 }
 
 impl Sheet {
     fn latency(&self, i: usize) -> i32 {
-        self.types[self.ops[i].kind].1
+        self.types[self.ops[i].kind].latency
     }
 
-    // In the window of i, with the result there at the end of the horizon.
-    fn start_allowed(&self, i: usize, t: usize) -> bool {
-        self.ops[i].lo <= t && t <= self.ops[i].hi && t + self.latency(i) as usize <= self.horizon
+    // In the window of i, with the result there at the end of the horizon, and busy for no longer than the interval.
+    fn start_allowed(&self, l: usize, i: usize, t: usize) -> bool {
+        let own = &self.types[self.ops[i].kind];
+        self.ops[i].lo <= t
+            && t <= self.ops[i].hi
+            && t + self.latency(i) as usize <= self.horizon
+            && (own.instances == 0 || own.busy <= l)
     }
 }
 
@@ -62,6 +73,7 @@ struct Task {
     n: usize,
     l: usize,
     instances: Vec<usize>,
+    busy: Vec<usize>,
     count: Vec<usize>,
     resource: Vec<usize>,
     edges: Vec<(usize, usize, i32)>,
@@ -89,7 +101,11 @@ fn parse(text: &str) -> Sheet {
         match key {
             "horizon" => s.horizon = n[0] as usize,
             "cap" => s.cap = n[0] as usize,
-            "type" => s.types.push((n[0] as usize, n[1])),
+            "type" => s.types.push(Type {
+                instances: n[0] as usize,
+                latency: n[1],
+                busy: n[2] as usize,
+            }),
             "op" => s.ops.push(Op {
                 kind: n[0] as usize,
                 lo: n[1] as usize,
@@ -144,7 +160,8 @@ fn task(s: &Sheet, l: usize) -> Option<Task> {
     Some(Task {
         n,
         l,
-        instances: s.types.iter().map(|t| t.0).collect(),
+        instances: s.types.iter().map(|t| t.instances).collect(),
+        busy: s.types.iter().map(|t| t.busy).collect(),
         count,
         resource,
         edges,
@@ -175,9 +192,14 @@ fn support(p: &Task, d: &mut Domain, next: &[i32; STARTS + 1], i: usize, j: usiz
     changed
 }
 
-// Rule 2: a window of slots takes at most as many operations of the type as it has instances for each used slot.
+// Rule 2: a stretch of slots takes at most as many operations of the type as it has instances for each used slot, where
+// a used slot covers those after it in which the instance is still busy; and all slots together take no more than there
+// are parts of that length.
 fn saturate(p: &Task, d: &mut Domain, r: usize, dirty: &mut [bool; OPS]) -> bool {
-    let (l, a, total) = (p.l, p.instances[r], p.count[r]);
+    let (l, a, k, total) = (p.l, p.instances[r], p.busy[r], p.count[r]);
+    if k <= l && total > a * (l / k) {
+        return false;
+    }
     let ops: Vec<usize> = (0..p.n).filter(|&i| p.resource[i] == r).collect();
     let mut slots = vec![[false; SLOTS]; ops.len()];
     let mut used = [false; SLOTS];
@@ -195,11 +217,12 @@ fn saturate(p: &Task, d: &mut Domain, r: usize, dirty: &mut [bool; OPS]) -> bool
             continue;
         }
         let mut out = have.clone();
-        let (mut inside, mut cap) = (0, 0);
+        let (mut inside, mut cap, mut covered) = (0, 0, 0);
         for w in 1..=l {
             let b = (s + w - 1) % l;
-            if used[b] {
+            if used[b] && covered < w {
                 cap += a;
+                covered = w - 1 + k;
             }
             if cap > total {
                 break;
@@ -237,6 +260,74 @@ fn saturate(p: &Task, d: &mut Domain, r: usize, dirty: &mut [bool; OPS]) -> bool
     true
 }
 
+// What is known of an instance: the slots of its first and its last pin, and for how many operations there is room from
+// the first on before the last.
+#[derive(Clone, Copy)]
+struct Unit {
+    first: usize,
+    last: usize,
+    taken: usize,
+}
+
+// The instance with one pin more; nothing where it is not free there.
+fn with_pin(l: usize, k: usize, unit: Option<Unit>, slot: usize) -> Option<Unit> {
+    let Some(u) = unit else {
+        return Some(Unit { first: slot, last: slot, taken: 0 });
+    };
+    if slot - u.last < k || u.first + l - slot < k {
+        return None;
+    }
+    Some(Unit { first: u.first, last: slot, taken: u.taken + (slot - u.last) / k })
+}
+
+const MOST_CALLS: u32 = 5000;
+
+// Rule 3: pins, in the order of their slots, find instances so that there is room for all operations of the type. True
+// where the calls run out.
+fn seat(p: &Task, r: usize, pins: &[usize], units: &mut Vec<Unit>, calls: &mut u32) -> bool {
+    let (l, a, k) = (p.l, p.instances[r], p.busy[r]);
+    let room: usize = units.iter().map(|u| u.taken + (l + u.first - u.last) / k).sum();
+    if room + (a - units.len()) * (l / k) < p.count[r] {
+        return false;
+    }
+    if pins.is_empty() || *calls == 0 {
+        return true;
+    }
+    *calls -= 1;
+    for v in 0..a.min(units.len() + 1) {
+        let before = units.get(v).copied();
+        let Some(after) = with_pin(l, k, before, pins[0]) else { continue };
+        match before {
+            Some(_) => units[v] = after,
+            None => units.push(after),
+        }
+        if seat(p, r, &pins[1..], units, calls) {
+            return true;
+        }
+        match before {
+            Some(u) => units[v] = u,
+            None => {
+                units.pop();
+            }
+        }
+    }
+    false
+}
+
+fn seated(p: &Task, d: &Domain, r: usize) -> bool {
+    let (a, k) = (p.instances[r], p.busy[r]);
+    if a == 0 || k == 1 || k > p.l || p.count[r] == 0 {
+        return true;
+    }
+    let mut pins: Vec<usize> = (0..p.n)
+        .filter(|&i| p.resource[i] == r && slot_count(p, &d[i]) == 1)
+        .map(|i| least(&d[i]) % p.l)
+        .collect();
+    pins.sort();
+    let mut calls = MOST_CALLS;
+    seat(p, r, &pins, &mut vec![], &mut calls)
+}
+
 fn narrow(p: &Task, d: &mut Domain, mut dirty: [bool; OPS]) -> bool {
     loop {
         while let Some(i) = (0..p.n).find(|&i| dirty[i]) {
@@ -263,20 +354,54 @@ fn narrow(p: &Task, d: &mut Domain, mut dirty: [bool; OPS]) -> bool {
             return false;
         }
         if !dirty[..p.n].contains(&true) {
-            return true;
+            return (0..p.instances.len()).all(|r| seated(p, d, r));
         }
     }
 }
 
+// Instances as colours of the operations that clash: is there a colouring? free[c]: the operations, a bit each, that
+// may have colour c. A colour is left out where a smaller one may be had by the same operations that are left.
+fn coloured(clash: &[u32], a: usize, left: u32, free: [u32; UNITS]) -> bool {
+    if left == 0 {
+        return true;
+    }
+    let may = |i: usize| (0..a).filter(|&c| free[c] >> i & 1 == 1).count();
+    let rest = (0..clash.len()).filter(|&i| left >> i & 1 == 1);
+    let i = rest.min_by_key(|&i| (may(i), OPS - (clash[i] & left).count_ones() as usize)).unwrap();
+    for c in 0..a {
+        let twin = (0..c).any(|e| free[e] & left == free[c] & left);
+        if free[c] >> i & 1 == 1 && !twin {
+            let mut less = free;
+            less[c] &= !clash[i];
+            if coloured(clash, a, left & !(1 << i), less) {
+                return true;
+            }
+        }
+    }
+    false
+}
+
+// There are instances of type r for these starts.
+fn has_instances(p: &Task, r: usize, x: &[usize; OPS]) -> bool {
+    let (l, a, k) = (p.l, p.instances[r], p.busy[r]);
+    let slots: Vec<usize> = (0..p.n).filter(|&i| p.resource[i] == r).map(|i| x[i] % l).collect();
+    let over = |b: usize| slots.iter().filter(|&&s| (b + l - s) % l < k).count() > a;
+    if a == 0 || slots.is_empty() {
+        return true;
+    }
+    if k > l || (0..l).any(over) {
+        return false;
+    }
+    let near = |s: usize, t: usize| (t + l - s) % l < k || (s + l - t) % l < k;
+    let clash: Vec<u32> = (0..slots.len())
+        .map(|i| (0..slots.len()).filter(|&j| j != i && near(slots[i], slots[j])).map(|j| 1 << j).sum())
+        .collect();
+    k == 1 || coloured(&clash, a, (1 << slots.len()) - 1, [(1 << slots.len()) - 1; UNITS])
+}
+
 fn is_plan(p: &Task, x: &[usize; OPS]) -> bool {
     p.edges.iter().all(|&(i, j, total)| x[i] as i32 + total <= x[j] as i32)
-        && (0..p.n).all(|i| {
-            p.instances[p.resource[i]] == 0
-                || (0..p.n)
-                    .filter(|&j| p.resource[j] == p.resource[i] && x[j] % p.l == x[i] % p.l)
-                    .count()
-                    <= p.instances[p.resource[i]]
-        })
+        && (0..p.instances.len()).all(|r| has_instances(p, r, x))
 }
 
 fn slot_count(p: &Task, row: &[bool; STARTS]) -> u64 {
@@ -354,7 +479,7 @@ fn first_plan(p: &Task, sheet: &Sheet) -> Found {
     let mut d = [[false; STARTS]; OPS];
     for i in 0..p.n {
         for t in 0..sheet.horizon {
-            d[i][t] = sheet.start_allowed(i, t);
+            d[i][t] = sheet.start_allowed(p.l, i, t);
         }
     }
     if (0..p.n).any(|i| least(&d[i]) == STARTS) {

@@ -25,6 +25,7 @@ from reference import sheet_text
 
 
 def plain_program():
+    os.makedirs(measure.BUILT, exist_ok=True)
     out = os.path.join(measure.BUILT, "plain")
     subprocess.run(["rustc", "--edition", "2021", "-O", "-o", out, os.path.join(HERE, "plain.rs")], check=True)
     return out
