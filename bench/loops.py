@@ -234,7 +234,7 @@ def windows(rng):
 
 
 MOST_BUSY_BOUND = 48  # so that the cap leaves some intervals past the bound
-MOST_BLOCKS = 30  # slots that the blocks fill; with more some sheets take minutes
+MOST_BLOCKS = 30  # slots that the blocks fill; with 48 the search runs away on one sheet of 100 (docs/PERFORMANCE.md)
 
 
 def busy_loop(rng):

@@ -94,8 +94,8 @@ pub fn slot_of(interval: usize, start: usize) -> usize
 fn busy_of(sheet: Sheet, op: usize) -> usize
     ensures { λ r. ⌜ r ≡ typeOf sheet op .busy ⌝ }
 {
-    let found = type_of(sheet, op);
-    found.busy
+    let kind = type_of(sheet, op);
+    kind.busy
 }
 
 // Whether operation i at the start t and operation j at the start u hold a slot in common, so that they may not share
