@@ -94,6 +94,20 @@ module _ (l k k' : ℕ) (hl : 0 < l) where
       pick (yes q) = inr (omega (arith, apart l k' k hl t' t (m .second .after) (m .first .after) (omega arith) (sym one), m .second .within))
       pick (no q) = inl (omega (arith, apart l k k' hl t t' (m .first .after) (m .second .after) (omega arith) one, m .first .within))
 
+-- two starts that are moved by one number, s to t and s' to t', meet as before
+pub meet-moved : {l k k' : ℕ} (s s' t t' d e : ℕ) → s + d ≡ t + e → s' + d ≡ t' + e → Meet l k k' s s' → Meet l k k' t t'
+meet-moved {l} {k} {k'} s s' t t' d e p q m = record {
+  at = (t + m .first .after) % l;
+  first = record { after = m .first .after; within = m .first .within; there = refl };
+  second = record { after = m .second .after; within = m .second .within; there = cancel l (t' + m .second .after) (t + m .first .after) e (along s' t' (m .second .after) q ∙ level ∙ sym (along s t (m .first .after) p)) };
+}
+  where
+    along : (x y a : ℕ) → x + d ≡ y + e → (y + a + e) % l ≡ (x + a + d) % l
+    along x y a h = let w : y + a + e ≡ x + a + d = omega arith in ap (λ (z : ℕ). z % l) w
+
+    level : (s' + m .second .after + d) % l ≡ (s + m .first .after + d) % l
+    level = sym (mod-add-mod (s' + m .second .after) l d) ∙ ap (λ (z : ℕ). (z + d) % l) (m .second .there ∙ sym (m .first .there)) ∙ mod-add-mod (s + m .first .after) l d
+
 -- at interval 0 nothing comes round: each start is its own slot
 pub line-meet : (k k' t t' : ℕ) → t ≤ t' → t' - t < k → 0 < k' → Meet 0 k k' t t'
 line-meet k k' t t' h g h' =

@@ -6,18 +6,19 @@ use mathlib.Core.Logic.{_⊎_, inl, inr, ⊎-elim, _≢_}
 use mathlib.Core.List.{List}
 use Prim.Native.Nat.{ℕ, _+_, _%_, _≤_, _<_}
 use native.Mathlib.Omega.{arith}
-use native.Mathlib.Decide.{ℕ-discrete}
+use native.Mathlib.Nat.{mod-lt}
+use native.Mathlib.Decide.{ℕ-discrete, decLt}
 use lib.Dec.{eqb, ltb}
-use borrow.Author.Tests.{eqb-true, eqb-false, eq-eqb, ltb-true}
+use borrow.Author.Tests.{eqb-true, eqb-false, eq-eqb, ltb-true, lt-ltb}
 use Rattle.sizes.specs.Sizes.{mostTypes}
 use Rattle.laws.specs.Tests.{by-test}
 use Rattle.laws.specs.Entry.{vec}
 use Rattle.laws.specs.Says.{Says}
-use Rattle.laws.specs.Count.{tally, both-true}
+use Rattle.laws.specs.Count.{tally, tally-before, tally-same, both-true, both-show}
 use Rattle.laws.specs.Places.{tally-places}
 use Rattle.colouring.specs.Graph.{joins, Graph, Coloured, SomeColouring, FirstColouring}
 use Rattle.held_slots.specs.Held.{Share, off}
-use Rattle.held_slots.specs.HeldLaws.{meet-back, stretch-share}
+use Rattle.held_slots.specs.HeldLaws.{meet-back, meet-one, off-same, stretch-share}
 use Rattle.held_slots.specs.Seated.{Clash, SeatedIn, nearW}
 use Rattle.instances.specs.Seats.{Clashing, ClashTable, Seatable, FirstFor, FirstSeats, Either, Merge, WithType, Seats, SeatsTo}
 
@@ -130,6 +131,41 @@ seated-room n ty l a k r t u hl p s hs = tally-places a n (nearW ty t l r s k) u
   where
     near : (i : ℕ) → nearW ty t l r s k i ≡ true → (ty i ≡ r) × (off l s (t i % l) < k)
     near i e = let q = both-true (eqb (ty i) r) (ltb (off l s (t i % l)) k) e in (eqb-true (ty i) r (q .0), ltb-true (off l s (t i % l)) k (q .1))
+
+-- where an instance is busy for one slot, counts tell all: an operation takes the instance of its rank in its slot
+module _ (n : ℕ) (ty : ℕ → ℕ) (l a r : ℕ) (t : ℕ → ℕ) (hl : 0 < l) where
+  in-slot : ℕ → ℕ → Bool
+  in-slot i = nearW ty t l r (t i % l) 1
+
+  rank : ℕ → ℕ
+  rank i = tally i (in-slot i)
+
+  slot-own : (i j : ℕ) → ty j ≡ r → t i % l ≡ t j % l → in-slot i j ≡ true
+  unfolding in-slot
+  slot-own i j e q = both-show (eqb (ty j) r) (ltb (off l (t i % l) (t j % l)) 1) (eq-eqb (ty j) r e)
+      (lt-ltb (off l (t i % l) (t j % l)) 1 (subst (λ (x : ℕ). off l (t i % l) x < 1) q (omega (arith, off-same l (t i % l) (mod-lt (t i) hl)))))
+
+  -- of two in one slot the later one has the higher rank
+  rank-later : (i j : ℕ) → i < j → ty i ≡ r → t i % l ≡ t j % l → rank i < rank j
+  unfolding rank in-slot
+  rank-later i j h e q = subst (λ (x : ℕ). tally i (in-slot i) < x) (tally-same j (in-slot i) (in-slot j) (λ v _. same v)) (tally-before j i (in-slot i) h (slot-own i i e refl))
+    where
+      same : (v : ℕ) → in-slot i v ≡ in-slot j v
+      same v = ap (λ (s : ℕ). nearW ty t l r s 1 v) q
+
+  pub room-seated : ((i : ℕ) → i < n → ty i ≡ r → tally n (nearW ty t l r (t i % l) 1) ≤ a) → (u : ℕ → ℕ) × SeatedIn n ty l a 1 r t u
+  unfolding in-slot rank
+  room-seated room = (
+    rank,
+    record {
+      below = λ i h e. omega (arith, tally-before n i (in-slot i) h (slot-own i i e refl), room i h e);
+      apart = λ i j h m c q. pick i j (c .first) (c .second) (meet-one l (t i) (t j) (c .share)) (c .different) q (decLt i j);
+    },
+  )
+    where
+      pick : (i j : ℕ) → ty i ≡ r → ty j ≡ r → t i % l ≡ t j % l → i ≢ j → rank i ≡ rank j → Dec (i < j) → ⊥
+      pick i j e d s ne q (yes h) = omega (arith, rank-later i j h e s, q)
+      pick i j e d s ne q (no h) = omega (arith, rank-later j i (omega arith) d (sym s), q)
 
 -- only the starts of the operations matter
 pub seated-local : (n : ℕ) (ty : ℕ → ℕ) (l a k r : ℕ) (s t u : ℕ → ℕ) → ((i : ℕ) → i < n → s i ≡ t i) → SeatedIn n ty l a k r s u → SeatedIn n ty l a k r t u
