@@ -92,6 +92,12 @@ pub record Below (q : List Bool) (x : ℕ) (r : List Bool) : Type 0 where
   pub high : (t : ℕ) → t < mostStarts → x ≤ t → has r t ≡ true → ⊥
   pub was : Part r q
 
+-- the starts of q from x on
+pub record From (q : List Bool) (x : ℕ) (r : List Bool) : Type 0 where
+  pub high : (t : ℕ) → t < mostStarts → x ≤ t → has q t ≡ true → has r t ≡ true
+  pub low : (t : ℕ) → t < mostStarts → t < x → has r t ≡ true → ⊥
+  pub was : Part r q
+
 -- the start x alone
 pub record Only (x : ℕ) (r : List Bool) : Type 0 where
   pub here : has r x ≡ true
@@ -102,6 +108,12 @@ pub record Least (q : List Bool) (r : ℕ) : Type 0 where
   pub within : r ≤ mostStarts
   pub here : r < mostStarts → has q r ≡ true
   pub before : (t : ℕ) → t < r → has q t ≡ true → ⊥
+
+-- one past the last start of a row, or 0
+pub record End (q : List Bool) (r : ℕ) : Type 0 where
+  pub within : r ≤ mostStarts
+  pub here : (t : ℕ) → t + 1 ≡ r → has q t ≡ true
+  pub after : (t : ℕ) → t < mostStarts → r ≤ t → has q t ≡ true → ⊥
 
 -- two starts of different classes, or only one class, that of x
 pub record Other (q : List Bool) (x m : ℕ) (r : Bool) : Type 0 where

@@ -4,7 +4,7 @@ use mathlib.Core.Path.{_≡_, sym, subst, _∙_}
 use mathlib.Core.Bool.{Bool, true, false}
 use mathlib.Core.Logic.{_⊎_, inl, inr, ⊎-elim, _≢_}
 use mathlib.Core.List.{List, []}
-use Prim.Native.Nat.{ℕ, _+_, _≤_, _<_}
+use Prim.Native.Nat.{ℕ, zero, suc, _+_, _≤_, _<_}
 use native.Mathlib.Omega.{arith}
 use native.Mathlib.Decide.{ℕ-discrete, decLt}
 use lib.ListN.{set, length}
@@ -14,7 +14,7 @@ use Rattle.laws.specs.Entry.{vec}
 use Rattle.laws.specs.Z.{true-false}
 use Rattle.laws.specs.Store.{store}
 use Rattle.domain.specs.Domain.{has, rowOf, In, Part, Within, Solved, Below, Only, FirstIn, Keeps, Least}
-use Rattle.domain.specs.Split.{within-self, within-trans, within-set, in-set, in-wider}
+use Rattle.domain.specs.Split.{within-self, within-trans, within-set, in-set, in-wider, LeastStarts, low-in}
 
 -- the starts x are a plan's, and the domain d allows them
 pub record Good (Plan : (ℕ → ℕ) → Type 0) (n : ℕ) (d : List (List Bool)) (x : List ℕ) : Type 0 where
@@ -50,6 +50,19 @@ pub record Tried (Plan : (ℕ → ℕ) → Type 0) (n : ℕ) (ok : List (List Bo
 -- a plan in d, or no answer
 pub record Held (Plan : (ℕ → ℕ) → Type 0) (n : ℕ) (d : List (List Bool)) (found : Bool) (x : List ℕ) : Type 0 where
   pub good : found ≡ true → Good Plan n d x
+
+-- where no start is later, the first that differs is earlier
+sooner : (n : ℕ) (s t : ℕ → ℕ) → ((v : ℕ) → v < n → s v ≤ t v) → ((v : ℕ) → v < n → s v ≡ t v) ⊎ Sooner n s t
+sooner zero s t h = inl (λ v l. absurd (omega arith))
+sooner (suc n) s t h = ⊎-elim (λ e. last e (ℕ-discrete (s n) (t n))) (λ w. inr (w .0, omega (arith, w .1), w .2, w .3)) (sooner n s t (λ v l. h v (omega arith)))
+  where
+    last : ((v : ℕ) → v < n → s v ≡ t v) → Dec (s n ≡ t n) → ((v : ℕ) → v < suc n → s v ≡ t v) ⊎ Sooner (suc n) s t
+    last e (no ne) = inr (n, omega arith, omega (arith, h n (omega arith)), e)
+    last e (yes q) = inl (λ v l. at v l (ℕ-discrete v n))
+      where
+        at : (v : ℕ) → v < suc n → Dec (v ≡ n) → s v ≡ t v
+        at v l (yes c) = subst (λ (k : ℕ). s k ≡ t k) (sym c) q
+        at v l (no c) = e v (omega arith)
 
 module _ (Plan : (ℕ → ℕ) → Type 0) (n : ℕ) where
   -- ---- one operation
@@ -171,6 +184,25 @@ module _ (Plan : (ℕ → ℕ) → Type 0) (n : ℕ) where
     first = λ _ t p h. record { case = ⊎-elim (λ a. inl (λ v q. z .single v (omega arith) (vec x v) (t v) (g .inside .small v q) (a .small v q) (g .inside .allowed v q) (a .allowed v q))) (λ f. inr (f (vec x) (g .inside))) (z .rest t p h) };
     none = λ q. true-false q;
   }
+
+  -- the least starts of d, if they are a plan, are the first one
+  pub ahead-least : {ok d : List (List Bool)} {i : ℕ} {x : List ℕ} → Ahead Plan n ok d i → LeastStarts n d x → ((v : ℕ) → v < n → vec x v < mostStarts) → Plan (vec x) → FirstIn Plan n ok true x
+  ahead-least {ok} {d} {i} {x} z w small p = record {
+    inside = λ _. in-wider (z .within) here;
+    plan = λ _. p;
+    first = λ _ t q h. record { case = ⊎-elim (λ a. sooner n (vec x) t (below t a)) (λ f. inr (f (vec x) here)) (z .rest t q h) };
+    none = λ e. true-false e;
+  }
+    where
+      here : In n d (vec x)
+      here = low-in Plan n w small
+
+      below : (t : ℕ → ℕ) → In n d t → (v : ℕ) → v < n → vec x v ≤ t v
+      below t a v l = pick (decLt (t v) (vec x v))
+        where
+          pick : Dec (t v < vec x v) → vec x v ≤ t v
+          pick (yes q) = absurd (w .least v l .before (t v) q (a .allowed v l))
+          pick (no q) = omega arith
 
   -- ---- a narrowed domain
 

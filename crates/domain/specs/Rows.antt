@@ -3,7 +3,7 @@ use mathlib.Core.Path.{_≡_, sym, _∙_, ap}
 use mathlib.Core.Bool.{Bool, true, false}
 use mathlib.Core.Logic.{_≢_}
 use mathlib.Core.List.{List}
-use Prim.Native.Nat.{ℕ, _<_, _+_, _%_}
+use Prim.Native.Nat.{ℕ, _≤_, _<_, _+_, _-_, _%_}
 use native.Mathlib.Omega.{arith}
 use native.Mathlib.Nat.{mod-add-mod, mod-eq-of-lt, mod-self}
 use native.Mathlib.Decide.{ℕ-discrete}
@@ -32,3 +32,11 @@ next-inner {s} {m} h = record { within = h; next = λ t e. sym (mod-add-mod t m 
 
 pub next-wraps : {s m : ℕ} → s + 1 ≡ m → NextClass s m 0
 next-wraps {s} {m} h = record { within = omega arith; next = λ t e. sym (mod-add-mod t m 1) ∙ ap (λ (k : ℕ). (k + 1) % m) e ∙ ap (λ (k : ℕ). k % m) h ∙ mod-self m }
+
+-- no start from a - 1 on, if none from a on and not a - 1 itself
+pub none-from : (q : List Bool) (a : ℕ) → ((k : ℕ) → k < mostStarts → a ≤ k → has q k ≡ true → ⊥) → has q (a - 1) ≡ false → (k : ℕ) → k < mostStarts → a - 1 ≤ k → has q k ≡ true → ⊥
+none-from q a none here k h l y = pick (ℕ-discrete k (a - 1))
+  where
+    pick : Dec (k ≡ a - 1) → ⊥
+    pick (yes e) = true-false (sym y ∙ ap (λ (j : ℕ). has q j) e ∙ here)
+    pick (no n) = none k h (omega arith) y

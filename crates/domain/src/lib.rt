@@ -8,7 +8,7 @@ ghost use mathlib.Core.Path.{_≡_};
 ghost use mathlib.Core.Bool.{true, false};
 ghost use Prim.Native.Nat.{ℕ, _+_, _≤_, _<_};
 ghost use Rattle.sizes.specs.Sizes.{mostStarts};
-ghost use Rattle.domain.specs.Domain.{Under, InClass, OffClass, OnlyClass, WithoutClass, NextClass, Below, Only, Least, Other};
+ghost use Rattle.domain.specs.Domain.{Under, InClass, OffClass, OnlyClass, WithoutClass, NextClass, Below, From, Only, Least, End, Other};
 use sizes::MOST_OPERATIONS;
 use sizes::MOST_STARTS;
 
@@ -90,6 +90,19 @@ pub fn below(row: Row, end: usize) -> Row
     out
 }
 
+// The starts of the row from `start` on.
+pub fn from_start(row: Row, start: usize) -> Row
+    ensures { λ r. ⌜ From row start r ⌝ }
+{
+    let mut out = row;
+    let mut t: usize = 0;
+    while t < MOST_STARTS {
+        out[t] = under(row[t], start, t + 1);
+        t += 1;
+    }
+    out
+}
+
 // One start alone.
 pub fn only(start: usize) -> Row
     requires { ⌜ start < mostStarts ⌝ }
@@ -114,6 +127,21 @@ pub fn least(row: Row) -> usize
     MOST_STARTS
 }
 
+// One past the last start of the row, or 0.
+pub fn end_of(row: Row) -> usize
+    ensures { λ r. ⌜ End row r ⌝ }
+{
+    let mut end = MOST_STARTS;
+    while 0 < end {
+        let t = end - 1;
+        if row[t] {
+            return end;
+        }
+        end = t;
+    }
+    0
+}
+
 // Whether the row has a start of another class than this one.
 pub fn other_class(row: Row, start: usize, modulus: usize) -> bool
     requires { ⌜ 0 < modulus ⌝ }
@@ -128,4 +156,19 @@ pub fn other_class(row: Row, start: usize, modulus: usize) -> bool
         t += 1;
     }
     false
+}
+
+fn either(a: bool, b: bool) -> bool {
+    if a { true } else { b }
+}
+
+// Whether two rows differ. No promise: callers only take it for which rows are worth another look.
+pub fn differ(a: &Row, b: &Row) -> bool {
+    let mut any = false;
+    let mut t: usize = 0;
+    while t < MOST_STARTS {
+        any = either(any, a[t] != b[t]);
+        t += 1;
+    }
+    any
 }
