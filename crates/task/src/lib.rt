@@ -2,7 +2,7 @@
 // An inner layer, a crate of its own for the check's time: `is_plan` asks for a task whose numbers are within its
 // arrays (`TaskOk`) and for starts below MOST_STARTS, `count_of` for a count within its array.
 // Callers: `search`, with the least starts of a domain; `saturation` and `seats`, with the operations of a task. The
-// task comes from schedule::plan_at, which proves `Ready`, and with it `TaskOk`, from the sheet.
+// task comes from schedule::plan_at, which proves `TaskOk` from the sheet, or from `relax`, which makes it from that one.
 ghost use mathlib.Core.Path.{_≡_};
 ghost use mathlib.Core.Bool.{true, false};
 ghost use Prim.Native.Nat.{ℕ, _≤_, _<_};
@@ -12,25 +12,23 @@ ghost use Rattle.laws.specs.Entry.{vec};
 ghost use Rattle.laws.specs.Says.{Says};
 ghost use Rattle.laws.specs.Count.{bit, tally};
 ghost use Rattle.held_slots.specs.Seated.{nearW};
-ghost use Rattle.task.specs.Plan.{Near, PlanOf, TaskOk, Small, EdgesMet, RoomKept, TypeSeated, Seated, meetsZ, bitOf};
-use sizes::MOST_EDGES;
+ghost use Rattle.task.specs.Plan.{SmallLag, LagsSmall, LagsFrom, LagsKept, PlanOf, TaskOk, Small, Overfull, RoomKept, Roomy, TypeSeated, Seated, meetsZ, bitOf};
 use sizes::MOST_OPERATIONS;
 use sizes::MOST_TYPES;
 
 // Pairs of operations: a lag for each, row by row.
 pub const PAIRS: usize = MOST_OPERATIONS * MOST_OPERATIONS;
 
-// A sheet at one interval: edges with their totals, the type of each operation, the instances of each type (0:
-// unlimited) and the slots that an operation holds its instance, the lags that every plan keeps, and the pairs whose
-// lags are worth a look.
+// The type of an operation that is of none: it asks for no instance.
+pub const NO_TYPE: usize = MOST_TYPES;
+
+// A sheet at one interval: the lags that every plan keeps, one for each pair of operations, the type of each operation,
+// the instances of each type (0: unlimited) and the slots that an operation holds its instance.
+// A hint, which promises nothing: `near` marks the pairs whose lags are worth a look.
 #[repr(C)]
 pub struct Task {
     pub ops: usize,
     pub interval: usize,
-    pub edges: usize,
-    pub from: [usize; MOST_EDGES],
-    pub to: [usize; MOST_EDGES],
-    pub total: [i32; MOST_EDGES],
     pub resource: [usize; MOST_OPERATIONS],
     pub instances: [usize; MOST_TYPES],
     pub busy: [usize; MOST_TYPES],
@@ -38,26 +36,41 @@ pub struct Task {
     pub near: [bool; PAIRS],
 }
 
-// Whether two starts keep an edge's dependence.
-fn meets(from: usize, total: i32, to: usize) -> bool
-    requires { ⌜ (from < mostStarts) × (to < mostStarts) × Near total ⌝ }
-    ensures { λ r. ⌜ r ≡ meetsZ from total to ⌝ }
+// Whether two starts keep a lag.
+fn meets(from: usize, lag: i32, to: usize) -> bool
+    requires { ⌜ (from < mostStarts) × (to < mostStarts) × SmallLag lag ⌝ }
+    ensures { λ r. ⌜ r ≡ meetsZ from lag to ⌝ }
 {
-    from as i32 + total <= to as i32
+    from as i32 + lag <= to as i32
 }
 
-// Whether the starts meet every edge.
-fn edges_met(p: Task, starts: [usize; MOST_OPERATIONS]) -> bool
-    requires { ⌜ TaskOk p × Small (p .ops) starts ⌝ }
-    ensures { λ r. ⌜ Says (EdgesMet p (vec starts)) r ⌝ }
+// Whether the starts keep each lag from operation i. The tables are lent here and below, as a task is copied where it is
+// handed over.
+fn lags_from(lag: &[i32; PAIRS], starts: &[usize; MOST_OPERATIONS], ops: usize, i: usize) -> bool
+    requires { ⌜ (ops ≤ mostOperations) × (i < ops) × LagsSmall ops (now lag) × Small ops (now starts) ⌝ }
+    ensures { λ r. ⌜ Says (LagsFrom ops (now (lag .entry)) (vec (now (starts .entry))) i) r ⌝ }
 {
-    let count = p.edges;
-    let mut e: usize = 0;
-    while e < count {
-        let i = p.from[e];
-        let j = p.to[e];
-        if meets(starts[i], p.total[e], starts[j]) {
-            e += 1;
+    let mut j: usize = 0;
+    while j < ops {
+        let there = i * MOST_OPERATIONS + j;
+        if meets(starts[i], lag[there], starts[j]) {
+            j += 1;
+        } else {
+            return false;
+        }
+    }
+    true
+}
+
+// Whether the starts keep every lag.
+fn lags_kept(lag: &[i32; PAIRS], starts: &[usize; MOST_OPERATIONS], ops: usize) -> bool
+    requires { ⌜ (ops ≤ mostOperations) × LagsSmall ops (now lag) × Small ops (now starts) ⌝ }
+    ensures { λ r. ⌜ Says (LagsKept ops (now (lag .entry)) (vec (now (starts .entry)))) r ⌝ }
+{
+    let mut i: usize = 0;
+    while i < ops {
+        if lags_from(lag, starts, ops, i) {
+            i += 1;
         } else {
             return false;
         }
@@ -87,8 +100,8 @@ fn near_bit(
 
 // How many operations of a type start less than `busy` after the slot.
 fn crowd(
-    resource: [usize; MOST_OPERATIONS],
-    starts: [usize; MOST_OPERATIONS],
+    resource: &[usize; MOST_OPERATIONS],
+    starts: &[usize; MOST_OPERATIONS],
     count: usize,
     interval: usize,
     kind: usize,
@@ -96,7 +109,7 @@ fn crowd(
     busy: usize,
 ) -> usize
     requires { ⌜ (0 < interval) × (slot < interval) × (count ≤ mostOperations) ⌝ }
-    ensures { λ c. ⌜ c ≡ tally count (nearW (vec resource) (vec starts) interval kind slot busy) ⌝ }
+    ensures { λ c. ⌜ c ≡ tally count (nearW (vec (now (resource .entry))) (vec (now (starts .entry))) interval kind slot busy) ⌝ }
 {
     let mut c: usize = 0;
     let mut i: usize = 0;
@@ -114,28 +127,43 @@ fn over(limit: usize, count: usize) -> bool
     if 0 < limit { limit < count } else { false }
 }
 
+// Whether the stretch of as many slots as the type of operation i stays busy, from its start on, has more starts of the
+// type than instances.
+fn overfull(
+    resource: &[usize; MOST_OPERATIONS],
+    instances: &[usize; MOST_TYPES],
+    busy: &[usize; MOST_TYPES],
+    starts: &[usize; MOST_OPERATIONS],
+    ops: usize,
+    interval: usize,
+    i: usize,
+) -> bool
+    requires { ⌜ (0 < interval) × (ops ≤ mostOperations) × (i < ops) ⌝ }
+    ensures { λ b. ⌜ Says (Overfull ops (vec (now (resource .entry))) (vec (now (instances .entry))) (vec (now (busy .entry))) interval (vec (now (starts .entry))) i) b ⌝ }
+{
+    let kind = resource[i];
+    if MOST_TYPES <= kind {
+        return false;
+    }
+    let slot = starts[i] % interval;
+    let c = crowd(resource, starts, ops, interval, kind, slot, busy[kind]);
+    over(instances[kind], c)
+}
+
 // Whether no stretch of as many slots as a type stays busy has more starts of it than the type has instances, as far as
 // the stretches from each start on tell. Where one has, there is no need to look for instances.
 fn room_kept(p: Task, starts: [usize; MOST_OPERATIONS]) -> bool
-    requires { ⌜ TaskOk p × Small (p .ops) starts ⌝ }
+    requires { ⌜ TaskOk p ⌝ }
     ensures { λ r. ⌜ RoomKept p (vec starts) r ⌝ }
 {
-    let count = p.ops;
-    let interval = p.interval;
     let resource = p.resource;
+    let instances = p.instances;
+    let busy = p.busy;
+    let ops = p.ops;
+    let interval = p.interval;
     let mut i: usize = 0;
-    while i < count {
-        let kind = resource[i];
-        let c = crowd(
-            resource,
-            starts,
-            count,
-            interval,
-            kind,
-            starts[i] % interval,
-            p.busy[kind],
-        );
-        if over(p.instances[kind], c) {
+    while i < ops {
+        if overfull(&resource, &instances, &busy, &starts, ops, interval, i) {
             return false;
         }
         i += 1;
@@ -143,12 +171,16 @@ fn room_kept(p: Task, starts: [usize; MOST_OPERATIONS]) -> bool
     true
 }
 
-// Whether the starts have instances in a type, if it is limited.
+// Whether the starts have instances in a type, if it is limited. Where it stays busy for one slot, there is one for each
+// as no stretch has too many.
 fn type_seated(p: Task, starts: [usize; MOST_OPERATIONS], kind: usize) -> bool
-    requires { ⌜ TaskOk p × (kind < mostTypes) ⌝ }
+    requires { ⌜ TaskOk p × Roomy p (vec starts) × (kind < mostTypes) ⌝ }
     ensures { λ b. ⌜ Says (TypeSeated p kind (vec starts)) b ⌝ }
 {
     if p.instances[kind] == 0 {
+        return true;
+    }
+    if p.busy[kind] == 1 {
         return true;
     }
     let resource = p.resource;
@@ -165,7 +197,7 @@ fn type_seated(p: Task, starts: [usize; MOST_OPERATIONS], kind: usize) -> bool
 
 // Whether the starts have instances in each limited type.
 fn seated(p: Task, starts: [usize; MOST_OPERATIONS]) -> bool
-    requires { ⌜ TaskOk p ⌝ }
+    requires { ⌜ TaskOk p × Roomy p (vec starts) ⌝ }
     ensures { λ b. ⌜ Says (Seated p (vec starts)) b ⌝ }
 {
     let mut kind: usize = 0;
@@ -184,7 +216,8 @@ pub fn is_plan(p: Task, starts: [usize; MOST_OPERATIONS]) -> bool
     requires { ⌜ TaskOk p × Small (p .ops) starts ⌝ }
     ensures { λ r. ⌜ Says (PlanOf p (vec starts)) r ⌝ }
 {
-    if edges_met(p, starts) {
+    let lag = p.lag;
+    if lags_kept(&lag, &starts, p.ops) {
         if room_kept(p, starts) {
             return seated(p, starts);
         }
