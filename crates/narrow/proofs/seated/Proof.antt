@@ -15,7 +15,7 @@ hopeless-requires c κs = search needs
 returns : tie.Need-returns
 returns c =
     let s = c .before .before .before .before .before .before .before in
-    keeps-none (PlanOf (s .args .p)) _ (s .pre .task .ops-ok) (c .before .before .hopeless .ensures .yes (c .before .if2 .taken))
+    keeps-none (PlanOf (s .args .p)) _ (s .pre .ops-ok) (c .before .before .hopeless .ensures .yes (c .before .if2 .taken))
 
 returns-2 : tie.Need-returns-2
 returns-2 c = search needs

@@ -1,9 +1,9 @@
--- `support::earlier` chooses one of two numbers by a flag.
+-- `support::rows::earlier` chooses one of two numbers by a flag.
 -- From the test alone.
 use mathlib.Core.Path.{refl, sym, _∙_}
 use Rattle.laws.specs.Z.{true-false}
-use Rattle.support.proofs.earlier.Statement.{statement}
-use Rattle.support.proofs.earlier.Tie as tie
+use Rattle.support.proofs.rows.earlier.Statement.{statement}
+use Rattle.support.proofs.rows.earlier.Tie as tie
 
 returns : tie.Need-returns
 returns c = record { yes = λ _. refl; no = λ e. true-false (sym (c .if1 .taken) ∙ e) }
