@@ -10,7 +10,7 @@ use native.Mathlib.Nat.{mod-lt}
 use native.Mathlib.Decide.{decLt}
 use lib.Dec.{eqb, ltb, leb}
 use borrow.Author.Tests.{eqb-true, eq-eqb, ltb-true, lt-ltb, leb-true}
-use Rattle.sizes.specs.Sizes.{mostInstances}
+use Rattle.sizes.specs.Sizes.{mostOperations}
 use Rattle.laws.specs.Entry.{vec}
 use Rattle.laws.specs.Z.{true-false}
 use Rattle.laws.specs.Count.{tally, tally-some, tally-le, tally-lt, tally-cover, both-true, both-show}
@@ -105,10 +105,10 @@ module _ (n : ℕ) (ty : ℕ → ℕ) (l a k r s : ℕ) (hl : 0 < l) (hs : s < l
   pub caps-done : {w covered cap : ℕ} {fail : Bool} {bar out : List ℕ} → Caps n ty l a k r s used reach w covered cap bar → (fail ≡ false) × (out ≡ bar) → Barred n ty l a k r s used reach fail out
   caps-done {bar = bar} {out = out} q e = record { safe = λ t pl f. (e .0, λ i h y. omega (arith, ap (λ (x : List ℕ). vec x i) (e .1), q .caps t pl f .1 i h y)) }
 
-pub widened-small : {cap covered a k w cap′ covered′ : ℕ} (u : Bool) → Widened cap covered a k u w cap′ covered′ → a ≤ mostInstances → cap ≤ w * mostInstances → cap′ ≤ (w + 1) * mostInstances
+pub widened-small : {cap covered a k w cap′ covered′ : ℕ} (u : Bool) → Widened cap covered a k u w cap′ covered′ → a ≤ mostOperations → cap ≤ w * mostOperations → cap′ ≤ (w + 1) * mostOperations
 widened-small {cap} {covered} {a} {k} {w} {cap′} true m h q = pick (decLt w covered)
   where
-    pick : Dec (w < covered) → cap′ ≤ (w + 1) * mostInstances
+    pick : Dec (w < covered) → cap′ ≤ (w + 1) * mostOperations
     pick (yes x) = omega (arith, m .inside x .0)
     pick (no x) = omega (arith, m .new refl (omega arith) .0)
 widened-small false m h q = omega (arith, m .unused refl .0)

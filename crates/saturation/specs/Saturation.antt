@@ -3,16 +3,26 @@
 -- What the functions of rule 2 answer; nothing here speaks of a whole task. Assumes nothing.
 use mathlib.Core.Path.{_≡_}
 use mathlib.Core.Bool.{Bool, true, false, cond}
-use mathlib.Core.Logic.{_⊎_}
+use mathlib.Core.Logic.{_⊎_, _≢_}
 use mathlib.Core.List.{List}
 use Prim.Native.Nat.{ℕ, _+_, _-_, _*_, _/_, _%_, _≤_, _<_}
 use lib.Dec.{eqb, ltb, leb}
-use Rattle.sizes.specs.Sizes.{mostStarts, mostIntervals}
+use lib.ListN.{length}
+use Rattle.sizes.specs.Sizes.{mostOperations, mostBusy, mostStarts, mostIntervals}
 use Rattle.laws.specs.Entry.{vec}
 use Rattle.laws.specs.Count.{bit, tally}
 use Rattle.domain.specs.Domain.{has, rowOf, In, Part, Within}
 use Rattle.held_slots.specs.Held.{off}
 use Rattle.held_slots.specs.Seated.{nearW}
+use Rattle.saturation.specs.declared.Case.{Case}
+
+-- a case whose numbers are within the arrays
+pub record CaseOk (c : Case) : Type 0 where
+  pub ops-ok : c .ops ≤ mostOperations
+  pub interval-max : c .interval ≤ mostIntervals
+  pub instances-ok : c .instances ≤ mostOperations
+  pub busy-some : 1 ≤ c .busy
+  pub busy-ok : c .busy ≤ mostBusy
 
 -- the slot w after slot s
 abbrev pub slotAt : ℕ → ℕ → ℕ → ℕ
@@ -29,6 +39,18 @@ insideBit type reach r w = bit (cond (eqb type r) (leb reach w) false)
 -- the row r has the slot of each start of `row`
 pub record SlotRow (l : ℕ) (row r : List Bool) : Type 0 where
   pub slot : (t : ℕ) → t < mostStarts → has row t ≡ true → has r (t % l) ≡ true
+
+-- r is a or b, and no more than either
+pub record Lesser (a b r : ℕ) : Type 0 where
+  pub one : r ≤ a
+  pub two : r ≤ b
+  pub which : (a ≤ r) ⊎ (b ≤ r)
+
+-- the row r, of `mostIntervals` slots, has those of u, and slot k for each start m + k of `row` with k below l
+pub record WithBlock (l m : ℕ) (row u r : List Bool) : Type 0 where
+  pub long : length r ≡ mostIntervals
+  pub old : (k : ℕ) → has u k ≡ true → has r k ≡ true
+  pub new : (k : ℕ) → k < l → m + k < mostStarts → has row (m + k) ≡ true → has r k ≡ true
 
 -- the same where the operation is of the type (`same`)
 pub record SlotIf (same : Bool) (l : ℕ) (row r : List Bool) : Type 0 where
@@ -79,6 +101,10 @@ pub record Fits (n : ℕ) (ty : ℕ → ℕ) (l r s : ℕ) (used : List Bool) (r
 pub record Barred (n : ℕ) (ty : ℕ → ℕ) (l a k r s : ℕ) (used : List Bool) (reach : List ℕ) (fail : Bool) (bar : List ℕ) : Type 0 where
   pub safe : (t : ℕ → ℕ) → Room n ty l a k r t → Fits n ty l r s used reach t → (fail ≡ false) × ((i : ℕ) → i < n → ty i ≡ r → vec bar i ≤ off l s (t i % l))
 
+-- the same for a case
+abbrev pub BarredIn : Case → (ℕ → ℕ) → ℕ → List Bool → List ℕ → Bool → List ℕ → Type 0
+BarredIn c ty s used reach fail bar = Barred (c .ops) ty (c .interval) (c .instances) (c .busy) (c .kind) s used reach fail bar
+
 -- the starts that a stretch takes (`cap`), and how many slots that count covers, with slot w more: k slots from there
 -- on take a more where the type uses slot w and it is not covered yet
 pub record Widened (cap covered a k : ℕ) (used : Bool) (w cap′ covered′ : ℕ) : Type 0 where
@@ -94,25 +120,27 @@ pub record Raised (n : ℕ) (full : Bool) (bar : List ℕ) (ty : ℕ → ℕ) (r
 pub record RaiseOne (full same : Bool) (bar reach w r : ℕ) : Type 0 where
   pub which : (r ≡ bar) ⊎ ((full ≡ true) × (same ≡ true) × (w < reach) × (r ≡ w))
 
--- whether a row may lose a start is said of operations of the type alone
-pub record Cuts (same r : Bool) : Type 0 where
-  pub only : r ≡ true → same ≡ true
-
--- r has the flag b of a start that is at least bar away (`far`), and no flag that was not there
-pub record Past (b : Bool) (far bar : ℕ) (r : Bool) : Type 0 where
-  pub yes : r ≡ true → b ≡ true
-  pub back : b ≡ true → bar ≤ far → r ≡ true
-
--- the row without the starts whose slot is less than bar after s
-pub record Trimmed (same : Bool) (bar s l : ℕ) (row r : List Bool) : Type 0 where
+-- the row r has only starts of `row`, and all whose slot is not b
+pub record WithoutSlot (b l : ℕ) (row r : List Bool) : Type 0 where
   pub was : Part r row
-  pub stays : (t : ℕ) → t < mostStarts → has row t ≡ true → (same ≡ true → bar ≤ off l s (t % l)) → has r t ≡ true
+  pub stays : (t : ℕ) → t < mostStarts → has row t ≡ true → t % l ≢ b → has r t ≡ true
+
+-- the row r has only starts of `row`, and all whose slot is at least bar after s
+pub record Trimmed (bar s l : ℕ) (row r : List Bool) : Type 0 where
+  pub was : Part r row
+  pub stays : (t : ℕ) → t < mostStarts → has row t ≡ true → bar ≤ off l s (t % l) → has r t ≡ true
 
 -- `out` allows no start anew, and loses no starts of d in which the slot of each operation of type r is at least its
 -- bar after s
 pub record Drained (n : ℕ) (ty : ℕ → ℕ) (r s l : ℕ) (bar : List ℕ) (d out : List (List Bool)) : Type 0 where
   pub within : Within n out d
   pub stays : (t : ℕ → ℕ) → In n d t → ((i : ℕ) → i < n → ty i ≡ r → vec bar i ≤ off l s (t i % l)) → In n out t
+
+-- what a search for full stretches from slot s answers, and the domain without the starts that it rules out
+pub record SlotCut (c : Case) (ty : ℕ → ℕ) (s : ℕ) (used : List Bool) (reach : List ℕ) (d out : List (List Bool)) (fail : Bool) : Type 0 where
+  pub bar : List ℕ
+  pub barred : BarredIn c ty s used reach fail bar
+  pub drained : fail ≡ false → Drained (c .ops) ty (c .kind) s (c .interval) bar d out
 
 -- b tells that a type has more operations than its instances take, each as many as the interval has room for
 pub record Crowded (most l a k : ℕ) (b : Bool) : Type 0 where

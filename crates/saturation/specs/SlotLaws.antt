@@ -5,17 +5,18 @@ use mathlib.Core.Logic.{_⊎_, inl, inr, ⊎-elim, _≢_}
 use mathlib.Core.List.{List}
 use Prim.Native.Nat.{ℕ, _+_, _-_, _%_, _≤_, _<_}
 use native.Mathlib.Omega.{arith}
-use native.Mathlib.Decide.{ℕ-discrete}
+use native.Mathlib.Decide.{ℕ-discrete, decLt}
+use native.Mathlib.Nat.{mod-add-mod, mod-eq-of-lt}
 use lib.Dec.{eqb, ltb}
 use lib.ListN.{set, length}
 use borrow.Author.Tests.{eq-eqb, ltb-true, ltb-false, le-ltb}
-use Rattle.sizes.specs.Sizes.{mostIntervals}
+use Rattle.sizes.specs.Sizes.{mostStarts, mostIntervals}
 use Rattle.laws.specs.Z.{true-false}
 use Rattle.laws.specs.Store.{store}
 use Rattle.domain.specs.Domain.{has, rowOf}
 use Rattle.held_slots.specs.Held.{off}
 use Rattle.held_slots.specs.HeldLaws.{off-spec, off-below}
-use Rattle.saturation.specs.Saturation.{slotAt, Either, Merged, StepOne}
+use Rattle.saturation.specs.Saturation.{slotAt, Either, WithBlock, Merged, StepOne}
 
 pub slot-spec : (l s w : ℕ) → s < l → w < l → ((s + w < l) × (slotAt l s w ≡ s + w)) ⊎ ((l ≤ s + w) × (slotAt l s w ≡ s + w - l))
 slot-spec l s w hs hw = go (ltb (s + w) l) refl
@@ -34,19 +35,33 @@ off-next l s b hb hs ne = ⊎-elim (λ x. ⊎-elim (λ y. omega (arith, x .0, x 
 pub off-zero : (l b : ℕ) → off l 0 b ≡ b
 off-zero l b = rw (le-ltb b 0 (omega arith)) (omega arith)
 
-pub slot-more : (l t s : ℕ) (row seen : List Bool) {e : Bool} → t % l ≡ s → s < length seen → ((k : ℕ) → k < t → has row k ≡ true → has seen (k % l) ≡ true) → Either (has row t) (has seen s) e → (k : ℕ) → k < t + 1 → has row k ≡ true → has (set seen s e) (k % l) ≡ true
-slot-more l t s row seen {e} at-t h c x k m y = store (λ j z. j ≡ k % l → z ≡ true) seen s e false h (λ q. pick q (ℕ-discrete k t)) (k % l) (λ ne q. c k (early ne) y) refl
-  where
-    early : k % l ≢ s → k < t
-    early ne = at (ℕ-discrete k t)
-      where
-        at : Dec (k ≡ t) → k < t
-        at (yes q) = absurd (ne (ap (λ (j : ℕ). j % l) q ∙ at-t))
-        at (no q) = omega arith
+-- one slot more of a block: what was there stays
+pub slots-stay : (s : ℕ) (u seen : List Bool) {a e : Bool} → s < length seen → Either a (has seen s) e → ((k : ℕ) → has u k ≡ true → has seen k ≡ true) → (k : ℕ) → has u k ≡ true → has (set seen s e) k ≡ true
+slots-stay s u seen {e = e} h x c k y = store (λ j z. has u j ≡ true → z ≡ true) seen s e false h (λ q. x .two (c s q)) k (λ _. c k) y
 
-    pick : s ≡ k % l → Dec (k ≡ t) → e ≡ true
-    pick q (yes w) = x .one (sym (ap (has row) w) ∙ y)
-    pick q (no w) = x .two (ap (has seen) q ∙ c k (omega arith) y)
+-- the start m + k of a block has slot k
+block-slot : (l m k : ℕ) → m % l ≡ 0 → m ≤ k → k < m + l → k % l ≡ k - m
+block-slot l m k z h q = ap (λ (j : ℕ). j % l) back ∙ sym (mod-add-mod m l (k - m)) ∙ ap (λ (j : ℕ). (j + (k - m)) % l) z ∙ mod-eq-of-lt (omega arith) ∙ omega arith
+  where
+    back : k ≡ m + (k - m)
+    back = omega arith
+
+-- one block more
+pub block-more : (l m : ℕ) (row u r : List Bool) → m % l ≡ 0 → ((k : ℕ) → k < m → k < mostStarts → has row k ≡ true → has u (k % l) ≡ true) → WithBlock l m row u r → (k : ℕ) → k < m + l → k < mostStarts → has row k ≡ true → has r (k % l) ≡ true
+block-more l m row u r z c b k q h y = pick (decLt k m)
+  where
+    pick : Dec (k < m) → has r (k % l) ≡ true
+    pick (yes x) = b .old (k % l) (c k x h y)
+    pick (no x) = let e : k ≡ m + (k - m) = omega arith in
+        ap (has r) (block-slot l m k z (omega arith) q) ∙ b .new (k - m) (omega arith) (omega arith) (sym (ap (has row) e) ∙ y)
+
+-- the slot w after s is w after s
+pub off-at : (l s w : ℕ) → s < l → w < l → off l s (slotAt l s w) ≡ w
+off-at l s w hs hw = ⊎-elim (λ x. at (slotAt l s w) (omega (arith, x .0, x .1)) (inl x)) (λ x. at (slotAt l s w) (omega (arith, x .0, x .1)) (inr x)) (slot-spec l s w hs hw)
+  where
+    at : (c : ℕ) → c < l → ((s + w < l) × (c ≡ s + w)) ⊎ ((l ≤ s + w) × (c ≡ s + w - l)) → off l s c ≡ w
+    at c hc (inl x) = ⊎-elim (λ y. absurd (omega (arith, x .0, x .1, y .0))) (λ y. omega (arith, x .0, x .1, y .0, y .1)) (off-spec l s c hc hs)
+    at c hc (inr x) = ⊎-elim (λ y. omega (arith, x .0, x .1, y .0, y .1)) (λ y. absurd (omega (arith, x .0, x .1, y .0))) (off-spec l s c hc hs)
 
 pub used-more : (n : ℕ) (ty : ℕ → ℕ) (r : ℕ) (z : List (List Bool)) (u out : List Bool) (i : ℕ) → ((k : ℕ) → k < i → ty k ≡ r → (b : ℕ) → b < mostIntervals → has (rowOf z k) b ≡ true → has u b ≡ true) → Merged (eqb (ty i) r) u (rowOf z i) out → (k : ℕ) → k < i + 1 → ty k ≡ r → (b : ℕ) → b < mostIntervals → has (rowOf z k) b ≡ true → has out b ≡ true
 used-more n ty r z u out i c m k l e b h y = pick (ℕ-discrete k i)

@@ -1,36 +1,71 @@
 -- Laws of the rows that the bars cut: no plan is lost. Assumes nothing.
-use mathlib.Core.Path.{_≡_, sym, ap, _∙_}
+use mathlib.Core.Path.{_≡_, sym, ap, subst, _∙_}
 use mathlib.Core.Bool.{Bool, true, false}
-use mathlib.Core.List.{List, []}
+use mathlib.Core.Logic.{_≢_}
+use mathlib.Core.List.{List}
 use Prim.Native.Nat.{ℕ, _%_, _≤_, _<_}
 use native.Mathlib.Omega.{arith}
 use native.Mathlib.Nat.{mod-lt}
+use native.Mathlib.Decide.{decLt}
 use lib.Dec.{eqb}
-use lib.ListN.{replicate, getD-replicate}
-use borrow.Author.Tests.{eqb-true}
-use Rattle.sizes.specs.Sizes.{mostOperations, mostTypes, mostStarts, mostIntervals}
+use lib.ListN.{set, length}
+use lib.Seq.{set-out}
+use Rattle.sizes.specs.Sizes.{mostTypes, mostStarts, mostIntervals}
 use Rattle.laws.specs.Entry.{vec}
 use Rattle.laws.specs.Z.{true-false}
+use Rattle.laws.specs.Store.{store}
 use Rattle.domain.specs.Domain.{has, rowOf, In, Keeps}
-use Rattle.domain.specs.Split.{within-trans}
+use Rattle.domain.specs.Split.{part-self, part-trans, within-self, within-trans, within-set, in-set}
 use Rattle.task.specs.declared.Task.{Task}
 use Rattle.task.specs.Plan.{PlanOf, TaskOk, typeOf, instancesOf, busyOf}
 use Rattle.task.specs.PlanLaws.{plan-room}
 use Rattle.laws.specs.Count.{tally}
+use Rattle.held_slots.specs.Held.{off}
 use Rattle.held_slots.specs.Circle.{type-room}
-use Rattle.saturation.specs.Saturation.{Crowded, Slotted, UsedBy, Reach, Fits, Barred, Cuts, Past, Trimmed, Drained}
+use Rattle.saturation.specs.declared.Case.{Case}
+use Rattle.saturation.specs.Saturation.{slotAt, Crowded, Slotted, UsedBy, Reach, Fits, Barred, BarredIn, SlotCut, WithoutSlot, Trimmed, Drained}
+use Rattle.saturation.specs.SlotLaws.{off-at}
 
-pub past-at : {b r : Bool} {far far′ bar : ℕ} → far ≡ far′ → Past b far bar r → Past b far′ bar r
-past-at {b} {r} {far} {far′} {bar} e k = record { yes = k .yes; back = λ y h. k .back y (omega (arith, e)) }
+-- one start of the slot less; past the end nothing is stored, so that the row's length needs no word
+pub gone-more : (b l t : ℕ) (row q : List Bool) → t % l ≡ b → WithoutSlot b l row q → WithoutSlot b l row (set q t false)
+gone-more b l t row q e k = pick (decLt t (length q))
+  where
+    pick : Dec (t < length q) → WithoutSlot b l row (set q t false)
+    pick (yes h) = record {
+      was = record { part = λ j m y. store (λ j z. j < mostStarts → z ≡ true → has row j ≡ true) q t false false h (λ _ y. true-false (sym y)) j (λ _ m y. k .was .part j m y) m y };
+      stays = λ j m y f. store (λ j z. j < mostStarts → has row j ≡ true → j % l ≢ b → z ≡ true) q t false false h (λ _ _ f. absurd (f e)) j (λ _. k .stays j) m y f;
+    }
+    pick (no h) = subst (WithoutSlot b l row) (sym (set-out q t false (omega arith))) k
 
-pub trimmed-when : {same cut : Bool} {bar s l : ℕ} {row r : List Bool} → Cuts same cut → Trimmed cut bar s l row r → Trimmed same bar s l row r
-trimmed-when k z = record { was = z .was; stays = λ t h y f. z .stays t h y (λ e. f (k .only e)) }
+pub trimmed-self : {bar s l : ℕ} (row : List Bool) → Trimmed bar s l row row
+trimmed-self row = record { was = part-self row; stays = λ t h y f. y }
 
-pub drained-all : {n r s l : ℕ} (ty : ℕ → ℕ) {bar : List ℕ} {d out : List (List Bool)} → ((i : ℕ) → i < n → Trimmed (eqb (ty i) r) (vec bar i) s l (rowOf d i) (rowOf out i)) → Drained n ty r s l bar d out
-drained-all {n} {r} {s} {l} ty {bar} {d} {out} h = record {
-  within = record { row = λ i q. h i q .was };
-  stays = λ t a b. record { small = a .small; allowed = λ i q. h i q .stays (t i) (a .small i q) (a .allowed i q) (λ e. b i q (eqb-true _ _ e)) };
+-- one slot less, that is less than bar after s
+pub trimmed-next : (bar s l w : ℕ) {b : ℕ} {row q r : List Bool} → s < l → w < l → w < bar → b ≡ slotAt l s w → Trimmed bar s l row q → WithoutSlot b l q r → Trimmed bar s l row r
+trimmed-next bar s l w {b} hs hw hb e k u = record {
+  was = part-trans (u .was) (k .was);
+  stays = λ t h y f. u .stays t h (k .stays t h y f) (λ x. absurd (omega (arith, f, hb, ap (λ (c : ℕ). off l s c) (x ∙ e), off-at l s w hs hw)));
 }
+
+pub drained-self : {n r s l : ℕ} (ty : ℕ → ℕ) {bar : List ℕ} (d : List (List Bool)) → Drained n ty r s l bar d d
+drained-self ty d = record { within = within-self d; stays = λ t a b. a }
+
+-- one row trimmed
+pub drained-next : {n r s l : ℕ} (ty : ℕ → ℕ) {bar : List ℕ} {d e : List (List Bool)} (i : ℕ) {row : List Bool} → i < n → ty i ≡ r → Drained n ty r s l bar d e → Trimmed (vec bar i) s l (rowOf e i) row → Drained n ty r s l bar d (set e i row)
+drained-next {n} {r} {s} {l} ty {bar} {d} {e} i {row} h y k z = pick (decLt i (length e))
+  where
+    pick : Dec (i < length e) → Drained n ty r s l bar d (set e i row)
+    pick (yes m) = record {
+      within = within-trans (within-set m (z .was)) (k .within);
+      stays = λ t a b. let q = k .stays t a b in in-set row m q (z .stays (t i) (a .small i h) (q .allowed i h) (b i h y));
+    }
+    pick (no m) = subst (Drained n ty r s l bar d) (sym (set-out e i row (omega arith))) k
+
+pub slot-fail : {c : Case} {ty : ℕ → ℕ} {s : ℕ} {used : List Bool} {reach bar : List ℕ} {d out : List (List Bool)} {f : Bool} → BarredIn c ty s used reach f bar → f ≡ true → SlotCut c ty s used reach d out true
+slot-fail {c} {ty} {s} {used} {reach} {bar} k e = record { bar = bar; barred = subst (λ (f : Bool). BarredIn c ty s used reach f bar) e k; drained = λ x. true-false x }
+
+pub slot-cut : {c : Case} {ty : ℕ → ℕ} {s : ℕ} {used : List Bool} {reach bar : List ℕ} {d out : List (List Bool)} {f : Bool} → BarredIn c ty s used reach f bar → f ≡ false → Drained (c .ops) ty (c .kind) s (c .interval) bar d out → SlotCut c ty s used reach d out false
+slot-cut {c} {ty} {s} {used} {reach} {bar} k e z = record { bar = bar; barred = subst (λ (f : Bool). BarredIn c ty s used reach f bar) e k; drained = λ _. z }
 
 pub fits-all : {n l r s : ℕ} (ty : ℕ → ℕ) {ok z : List (List Bool)} {used : List Bool} {reach : List ℕ} {t : ℕ → ℕ} → 0 < l → l ≤ mostIntervals → Slotted n l ty r ok z → UsedBy n ty r z used → Reach n l s z reach → In n ok t → Fits n ty l r s used reach t
 fits-all {n} {l} {r} {s} ty {ok} {z} {used} {reach} {t} p m a b c h = record {

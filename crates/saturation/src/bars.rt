@@ -3,30 +3,33 @@
 ghost use mathlib.Core.Path.{_≡_};
 ghost use mathlib.Core.Bool.{false};
 ghost use Prim.Native.Nat.{ℕ, _+_, _*_, _≤_, _<_};
-ghost use Rattle.sizes.specs.Sizes.{mostOperations, mostInstances, mostBusy, mostIntervals};
+ghost use Rattle.sizes.specs.Sizes.{mostOperations, mostBusy, mostIntervals};
 ghost use Rattle.laws.specs.Entry.{vec};
 ghost use Rattle.laws.specs.Count.{tally};
-ghost use Rattle.saturation.specs.Saturation.{insideB, insideBit, Barred, Widened, Raised, RaiseOne};
+ghost use Rattle.saturation.specs.Saturation.{insideB, insideBit, CaseOk, BarredIn, Widened, Raised, RaiseOne};
+use crate::Case;
 use crate::slots::Slots;
 use crate::slots::slot_at;
+use crate::touches::Touches;
+use crate::touches::more;
 use sizes::MOST_INTERVALS;
 use sizes::MOST_OPERATIONS;
 
-// What the stretches from a slot say: no plan, or how far from it each operation is at least; and whether that tells
-// anything.
+// What the stretches from a slot say: no plan, or how far from it each operation is at least; and how many slots the
+// widest of them has that tells anything, or 0.
 pub struct Barrier {
     pub fail: bool,
-    pub some: bool,
+    pub wide: usize,
     pub bar: [usize; MOST_OPERATIONS],
 }
 
 // No stretch takes too few: these bars.
-fn with_bars(some: bool, bar: [usize; MOST_OPERATIONS]) -> Barrier
+fn with_bars(wide: usize, bar: [usize; MOST_OPERATIONS]) -> Barrier
     ensures { λ b. ⌜ (b .fail ≡ false) × (b .bar ≡ bar) ⌝ }
 {
     Barrier {
         fail: false,
-        some,
+        wide,
         bar,
     }
 }
@@ -34,7 +37,7 @@ fn with_bars(some: bool, bar: [usize; MOST_OPERATIONS]) -> Barrier
 // More must be inside a stretch than it takes.
 const NO_PLAN: Barrier = Barrier {
     fail: true,
-    some: true,
+    wide: 0,
     bar: [0; MOST_OPERATIONS],
 };
 
@@ -152,7 +155,7 @@ struct Cover {
 // The stretch with slot w more: where the type uses it and it is not covered yet, the slots from there on that the type
 // stays busy take as many starts more as it has instances.
 fn widened(cover: Cover, instances: usize, busy: usize, used: bool, w: usize) -> Cover
-    requires { ⌜ (w < mostIntervals) × (cover .cap ≤ w * mostInstances) × (instances ≤ mostInstances) × (busy ≤ mostBusy) ⌝ }
+    requires { ⌜ (w < mostIntervals) × (cover .cap ≤ w * mostOperations) × (instances ≤ mostOperations) × (busy ≤ mostBusy) ⌝ }
     ensures { λ r. ⌜ Widened (cover .cap) (cover .covered) instances busy used w (r .cap) (r .covered) ⌝ }
 {
     if used {
@@ -166,57 +169,60 @@ fn widened(cover: Cover, instances: usize, busy: usize, used: bool, w: usize) ->
     cover
 }
 
-// Whether a stretch that takes `cap` starts is worth a count: as many seem to be inside, and not all of the type.
-fn worth(cap: usize, seem: u32, most: usize) -> bool {
+// Whether a stretch that takes `cap` starts is worth a count: as many seem to be inside, and it seems that others of
+// the type touch it.
+fn worth(cap: usize, seem: u32, most: usize, touched: u32) -> bool {
     if cap < seem as usize {
         return true;
     }
-    if (seem as usize) < most {
-        cap == seem as usize
-    } else {
-        false
+    if seem < touched {
+        if (seem as usize) < most {
+            return cap == seem as usize;
+        }
     }
+    false
 }
 
-// The stretches from slot s on, for a type of `most` operations whose instances stay busy for so many slots.
+// The stretches from slot s on.
 pub fn bars(
+    case: Case,
     resource: &[usize; MOST_OPERATIONS],
-    ops: usize,
-    interval: usize,
-    instances: usize,
-    busy: usize,
-    most: usize,
     used: &Slots,
+    touch: &Touches,
     reach: &[usize; MOST_OPERATIONS],
-    kind: usize,
     s: usize,
 ) -> Barrier
-    requires { ⌜ (ops ≤ mostOperations) × (interval ≤ mostIntervals) × (s < interval) × (instances ≤ mostInstances) × (1 ≤ busy) × (busy ≤ mostBusy) ⌝ }
-    ensures { λ b. ⌜ Barred ops (vec (now (resource .entry))) interval instances busy kind s (now (used .entry)) (now (reach .entry)) (b .fail) (b .bar) ⌝ }
+    requires { ⌜ CaseOk case × (s < case .interval) ⌝ }
+    ensures { λ b. ⌜ BarredIn case (vec (now (resource .entry))) s (now (used .entry)) (now (reach .entry)) (b .fail) (b .bar) ⌝ }
 {
+    let ops = case.ops;
+    let interval = case.interval;
+    let kind = case.kind;
     let counts = reach_counts(resource, reach, ops, kind);
     let mut bar = [0usize; MOST_OPERATIONS];
-    let mut some = false;
+    let mut wide: usize = 0;
     let mut seem = counts[0];
+    let mut touched: u32 = 0;
     let mut cover = Cover { cap: 0, covered: 0 };
     let mut w: usize = 0;
     while w < interval {
         let b = slot_at(interval, s, w);
-        cover = widened(cover, instances, busy, used[b], w);
+        cover = widened(cover, case.instances, case.busy, used[b], w);
+        touched = more(touched, touch[b]);
         w += 1;
         seem = std::num::wrapping_add_u32(seem, counts[w]);
-        if most < cover.cap {
-            return with_bars(some, bar);
+        if case.most < cover.cap {
+            return with_bars(wide, bar);
         }
-        if worth(cover.cap, seem, most) {
+        if worth(cover.cap, seem, case.most, touched) {
             let count = inside(resource, reach, ops, kind, w);
             if cover.cap < count {
                 return NO_PLAN;
             }
             let up = raised(count == cover.cap, &bar, resource, reach, ops, kind, w);
             bar = up;
-            some = true;
+            wide = w;
         }
     }
-    with_bars(some, bar)
+    with_bars(wide, bar)
 }

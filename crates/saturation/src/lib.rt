@@ -2,16 +2,17 @@
 // has instances. So a stretch of slots takes only so many of them, and where it is full the other operations stay out.
 // An inner layer, a crate of its own for the check's time: `saturation` asks for a task whose numbers are within its
 // arrays (`TaskOk`).
-// Caller: `narrow`, with the task of schedule::plan_at, which proves `Ready`, and with it `TaskOk`, from the sheet.
+// Caller: `narrow`, with a task of which its own caller proves `TaskOk`.
 ghost use Prim.Native.Nat.{ℕ, _+_, _≤_, _<_};
-ghost use Rattle.sizes.specs.Sizes.{mostOperations, mostTypes, mostInstances, mostIntervals};
+ghost use Rattle.sizes.specs.Sizes.{mostOperations, mostTypes, mostIntervals};
 ghost use Rattle.laws.specs.Entry.{vec};
 ghost use Rattle.domain.specs.Domain.{Keeps};
 ghost use Rattle.task.specs.Plan.{TaskOk, PlanOf, instancesOf, typeOf};
-ghost use Rattle.saturation.specs.Saturation.{Slotted, Crowded};
+ghost use Rattle.saturation.specs.Saturation.{CaseOk, Slotted, SlotCut, Crowded};
 
 mod bars;
 mod slots;
+mod touches;
 mod trims;
 
 use bars::bars;
@@ -20,50 +21,82 @@ use sizes::MOST_OPERATIONS;
 use sizes::MOST_STARTS;
 use sizes::MOST_TYPES;
 use slots::SlotRows;
+use slots::Slots;
 use slots::reach_zero;
 use slots::slot_rows;
 use slots::stepped;
 use slots::used_slots;
 use task::Task;
+use touches::Touches;
+use touches::forget;
+use touches::touches;
 use trims::drained;
+
+// One type of a task: so many of its operations (`most`) are of the type `kind`, on its instances, which stay busy for
+// some slots of the interval.
+struct Case {
+    ops: usize,
+    interval: usize,
+    instances: usize,
+    busy: usize,
+    most: usize,
+    kind: usize,
+}
+
+// The stretches from slot s on: whether more must be inside one than it takes; else without the starts that they rule
+// out.
+fn slot_saturation(
+    case: Case,
+    d: &mut Domain,
+    z: &SlotRows,
+    touch: &mut Touches,
+    resource: &[usize; MOST_OPERATIONS],
+    used: &Slots,
+    reach: &[usize; MOST_OPERATIONS],
+    s: usize,
+) -> bool
+    requires { ⌜ CaseOk case × (s < case .interval) ⌝ }
+    ensures { λ fail. ⌜ SlotCut case (vec (now (resource .entry))) s (now (used .entry)) (now (reach .entry)) (now (d .entry)) (now (d .exit)) fail ⌝ }
+{
+    let b = bars(case, resource, used, touch, reach, s);
+    if b.fail {
+        return true;
+    }
+    if 0 < b.wide {
+        let bar = b.bar;
+        if drained(case, d, z, resource, &bar, s) {
+            forget(touch, b.wide, s, case.interval);
+        }
+    }
+    false
+}
 
 // Rule 2 for this type, which `most` operations have, whose slots are z.
 fn type_saturation(p: Task, d: &mut Domain, z: &SlotRows, kind: usize, most: usize)
     requires { ⌜ TaskOk p × (kind < mostTypes) × (0 < instancesOf p kind) × Slotted (p .ops) (p .interval) (typeOf p) kind (now d) (now z) ⌝ }
     ensures { λ _. ⌜ Keeps (PlanOf p) (p .ops) (now (d .entry)) (now (d .exit)) ⌝ }
 {
-    let ops = p.ops;
-    let interval = p.interval;
     let resource = p.resource;
-    let instances = p.instances[kind];
-    let busy = p.busy[kind];
-    let used = used_slots(z, &resource, ops, kind);
-    let mut reach = reach_zero(z, ops, interval);
+    let case = Case {
+        ops: p.ops,
+        interval: p.interval,
+        instances: p.instances[kind],
+        busy: p.busy[kind],
+        most,
+        kind,
+    };
+    let used = used_slots(z, &resource, p.ops, kind);
+    let mut touch = touches(z, p.ops);
+    let mut reach = reach_zero(z, p.ops, p.interval);
     let mut s: usize = 0;
     while s < p.interval {
         if used[s] {
-            let b = bars(
-                &resource,
-                ops,
-                interval,
-                instances,
-                busy,
-                most,
-                &used,
-                &reach,
-                kind,
-                s,
-            );
-            if b.fail {
+            if slot_saturation(case, d, z, &mut touch, &resource, &used, &reach, s) {
                 *d = [[false; MOST_STARTS]; MOST_OPERATIONS];
                 return;
             }
-            if b.some {
-                let bar = b.bar;
-                *d = drained(d, z, &resource, &bar, ops, kind, s, interval);
-            }
         }
-        reach = stepped(&reach, z, s, ops, interval);
+        reach = stepped(&reach, z, s, p.ops, p.interval);
         s += 1;
     }
 }
@@ -71,7 +104,7 @@ fn type_saturation(p: Task, d: &mut Domain, z: &SlotRows, kind: usize, most: usi
 // Whether a type has more operations (`most`) than its instances take in all: each takes as many as the interval has
 // room for, one after the other.
 fn crowded(most: usize, interval: usize, instances: usize, busy: usize) -> bool
-    requires { ⌜ (0 < interval) × (interval ≤ mostIntervals) × (instances ≤ mostInstances) × (1 ≤ busy) ⌝ }
+    requires { ⌜ (0 < interval) × (interval ≤ mostIntervals) × (instances ≤ mostOperations) × (1 ≤ busy) ⌝ }
     ensures { λ b. ⌜ Crowded most interval instances busy b ⌝ }
 {
     if interval < busy {
@@ -123,18 +156,16 @@ fn changed_in(
 
 // Rule 2 for each type of which a row changed. Left free: how many of the starts that no plan has go, and the rows past
 // the operations.
-pub fn saturation(p: Task, ok: Domain, changed: [bool; MOST_OPERATIONS]) -> Domain
+pub fn saturation(p: Task, d: &mut Domain, changed: [bool; MOST_OPERATIONS])
     requires { ⌜ TaskOk p ⌝ }
-    ensures { λ d. ⌜ Keeps (PlanOf p) (p .ops) ok d ⌝ }
+    ensures { λ _. ⌜ Keeps (PlanOf p) (p .ops) (now (d .entry)) (now (d .exit)) ⌝ }
 {
     let resource = p.resource;
-    let mut d = ok;
     let mut kind: usize = 0;
     while kind < MOST_TYPES {
         if changed_in(&resource, &changed, p.ops, kind) {
-            limited_saturation(p, &mut d, kind);
+            limited_saturation(p, d, kind);
         }
         kind += 1;
     }
-    d
 }

@@ -3,9 +3,10 @@
 ghost use mathlib.Core.Path.{_≡_};
 ghost use mathlib.Core.Bool.{true, false};
 ghost use Prim.Native.Nat.{ℕ, _+_, _≤_, _<_};
-ghost use Rattle.sizes.specs.Sizes.{mostOperations, mostIntervals};
+ghost use lib.ListN.{length};
+ghost use Rattle.sizes.specs.Sizes.{mostOperations, mostStarts, mostIntervals};
 ghost use Rattle.laws.specs.Entry.{vec};
-ghost use Rattle.saturation.specs.Saturation.{slotAt, SlotRow, SlotIf, Slotted, Either, Merged, UsedBy, FarRow, Reach, StepOne};
+ghost use Rattle.saturation.specs.Saturation.{slotAt, SlotRow, Lesser, WithBlock, SlotIf, Slotted, Either, Merged, UsedBy, FarRow, Reach, StepOne};
 use domain::Domain;
 use domain::Row;
 use sizes::MOST_INTERVALS;
@@ -34,19 +35,35 @@ pub fn either(a: bool, b: bool) -> bool
     if a { true } else { b }
 }
 
+pub fn lesser(a: usize, b: usize) -> usize
+    ensures { λ r. ⌜ Lesser a b r ⌝ }
+{
+    if a < b { a } else { b }
+}
+
+// The slots, with those of a row's starts from a multiple of the interval on, as many as it has slots.
+fn add_block(seen: &mut Slots, row: &Row, base: usize, interval: usize)
+    requires { ⌜ (base < mostStarts) × (interval ≤ mostIntervals) × (length (now seen) ≡ mostIntervals) ⌝ }
+    ensures { λ _. ⌜ WithBlock interval base (now (row .entry)) (now (seen .entry)) (now (seen .exit)) ⌝ }
+{
+    let end = lesser(interval, MOST_STARTS - base);
+    let mut s: usize = 0;
+    while s < end {
+        seen[s] = either(row[base + s], seen[s]);
+        s += 1;
+    }
+}
+
 // The slots of a row's starts.
 fn slot_row(row: &Row, interval: usize) -> Slots
     requires { ⌜ (0 < interval) × (interval ≤ mostIntervals) ⌝ }
     ensures { λ r. ⌜ SlotRow interval (now (row .entry)) r ⌝ }
 {
     let mut seen = [false; MOST_INTERVALS];
-    let mut s: usize = 0;
-    let mut t: usize = 0;
-    while t < MOST_STARTS {
-        seen[s] = either(row[t], seen[s]);
-        let next = domain::next_class(s, interval);
-        s = next;
-        t += 1;
+    let mut base: usize = 0;
+    while base < MOST_STARTS {
+        add_block(&mut seen, row, base, interval);
+        base += interval;
     }
     seen
 }

@@ -1,87 +1,74 @@
 // The starts that the bars rule out, taken from the rows of a type.
-ghost use mathlib.Core.Path.{_≡_};
-ghost use mathlib.Core.Bool.{true, false};
 ghost use Prim.Native.Nat.{ℕ, _+_, _≤_, _<_};
-ghost use Rattle.sizes.specs.Sizes.{mostOperations, mostIntervals};
+ghost use Rattle.sizes.specs.Sizes.{mostIntervals};
 ghost use Rattle.laws.specs.Entry.{vec};
-ghost use Rattle.saturation.specs.Saturation.{Cuts, Past, Trimmed, Drained};
+ghost use Rattle.saturation.specs.Saturation.{CaseOk, WithoutSlot, Trimmed, Drained};
+use crate::Case;
 use crate::slots::SlotRows;
 use crate::slots::Slots;
+use crate::slots::either;
+use crate::slots::lesser;
 use crate::slots::slot_at;
 use domain::Domain;
 use domain::Row;
 use sizes::MOST_OPERATIONS;
 use sizes::MOST_STARTS;
 
-// The flag of a start whose slot is `far` after slot s, where that is no less than the bar.
-fn past(flag: bool, far: usize, bar: usize) -> bool
-    ensures { λ r. ⌜ Past flag far bar r ⌝ }
+// The row without the starts of one slot.
+fn without_slot(row: &mut Row, slot: usize, interval: usize)
+    requires { ⌜ (slot < interval) × (interval ≤ mostIntervals) ⌝ }
+    ensures { λ _. ⌜ WithoutSlot slot interval (now (row .entry)) (now (row .exit)) ⌝ }
 {
-    if far < bar { false } else { flag }
-}
-
-// Whether an operation of the type has a slot less than bar after s. (Where it has none its row stays as it is, which
-// is right in any case.)
-fn cuts(same: bool, slots: &Slots, bar: usize, s: usize, interval: usize) -> bool
-    requires { ⌜ (s < interval) × (interval ≤ mostIntervals) ⌝ }
-    ensures { λ r. ⌜ Cuts same r ⌝ }
-{
-    if same {
-        let mut w: usize = 0;
-        while w < interval {
-            if bar <= w {
-                return false;
-            }
-            let b = slot_at(interval, s, w);
-            if slots[b] {
-                return true;
-            }
-            w += 1;
-        }
+    let mut t = slot;
+    while t < MOST_STARTS {
+        row[t] = false;
+        t += interval;
     }
-    false
 }
 
-// A row without the starts whose slot is less than bar after s.
-fn trim(cut: bool, row: &Row, bar: usize, s: usize, interval: usize) -> Row
+// The row without the starts whose slot is less than bar after s; and whether there were any. `slots` tells where they
+// are: that some stay is right in any case.
+fn trim(row: &mut Row, slots: &Slots, bar: usize, s: usize, interval: usize) -> bool
     requires { ⌜ (s < interval) × (interval ≤ mostIntervals) ⌝ }
-    ensures { λ r. ⌜ Trimmed cut bar s interval (now (row .entry)) r ⌝ }
+    ensures { λ _. ⌜ Trimmed bar s interval (now (row .entry)) (now (row .exit)) ⌝ }
 {
-    if cut {
-        let mut out = [false; MOST_STARTS];
-        let mut b: usize = 0;
-        let mut t: usize = 0;
-        while t < MOST_STARTS {
-            out[t] = past(row[t], held_slots::offset(interval, s, b), bar);
-            let next = domain::next_class(b, interval);
-            b = next;
-            t += 1;
+    let end = lesser(bar, interval);
+    let mut cut = false;
+    let mut w: usize = 0;
+    while w < end {
+        let b = slot_at(interval, s, w);
+        if slots[b] {
+            without_slot(row, b, interval);
+            cut = true;
         }
-        return out;
+        w += 1;
     }
-    *row
+    cut
 }
 
-// The domain without the starts that the bars rule out.
+// The domain without the starts that the bars rule out; and whether there were any.
 pub fn drained(
-    d: &Domain,
+    case: Case,
+    d: &mut Domain,
     z: &SlotRows,
     resource: &[usize; MOST_OPERATIONS],
     bar: &[usize; MOST_OPERATIONS],
-    ops: usize,
-    kind: usize,
     s: usize,
-    interval: usize,
-) -> Domain
-    requires { ⌜ (ops ≤ mostOperations) × (s < interval) × (interval ≤ mostIntervals) ⌝ }
-    ensures { λ out. ⌜ Drained ops (vec (now (resource .entry))) kind s interval (now (bar .entry)) (now (d .entry)) out ⌝ }
+) -> bool
+    requires { ⌜ CaseOk case × (s < case .interval) ⌝ }
+    ensures { λ _. ⌜ Drained (case .ops) (vec (now (resource .entry))) (case .kind) s (case .interval) (now (bar .entry)) (now (d .entry)) (now (d .exit)) ⌝ }
 {
-    let mut out = [[false; MOST_STARTS]; MOST_OPERATIONS];
+    let ops = case.ops;
+    let kind = case.kind;
+    let interval = case.interval;
+    let mut cut = false;
     let mut i: usize = 0;
     while i < ops {
-        let cut = cuts(resource[i] == kind, &z[i], bar[i], s, interval);
-        out[i] = trim(cut, &d[i], bar[i], s, interval);
+        if resource[i] == kind {
+            let here = trim(&mut d[i], &z[i], bar[i], s, interval);
+            cut = either(here, cut);
+        }
         i += 1;
     }
-    out
+    cut
 }

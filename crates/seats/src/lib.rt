@@ -2,7 +2,7 @@
 // there) must have instances such that what is left free between them takes the others.
 // An inner layer, a crate of its own for the check's time: `hopeless` asks for a task whose numbers are within its
 // arrays (`TaskOk`).
-// Caller: `narrow`, with the task of schedule::plan_at, which proves `Ready`, and with it `TaskOk`, from the sheet.
+// Caller: `narrow`, with a task of which its own caller proves `TaskOk`.
 ghost use mathlib.Core.Path.{_≡_};
 ghost use mathlib.Core.Bool.{true, false};
 ghost use Prim.Native.Nat.{ℕ, _+_, _*_, _/_, _-_, _≤_, _<_};
@@ -210,7 +210,7 @@ fn seat(case: Case, from: usize, seats: Seats, fuel: usize) -> Answer
 // Whether the rule is for a type with these instances and busy slots: it is limited, and stays busy for more than one
 // slot and no more than there are.
 fn worth(instances: usize, busy: usize, interval: usize) -> bool
-    ensures { λ b. ⌜ (b ≡ true → (0 < instances) × (busy ≤ interval)) ⌝ }
+    ensures { λ b. ⌜ (b ≡ true → (0 < instances) × (1 < busy) × (busy ≤ interval)) ⌝ }
 {
     if 0 < instances {
         if 1 < busy {
@@ -222,7 +222,7 @@ fn worth(instances: usize, busy: usize, interval: usize) -> bool
 
 // Whether there is no plan in the domain, as far as the seats of this type tell.
 fn type_hopeless(p: Task, d: &Domain, kind: usize) -> bool
-    requires { ⌜ TaskOk p × (kind < mostTypes) × (0 < instancesOf p kind) × (busyOf p kind ≤ p .interval) ⌝ }
+    requires { ⌜ TaskOk p × (kind < mostTypes) × (0 < instancesOf p kind) × (1 < busyOf p kind) × (busyOf p kind ≤ p .interval) ⌝ }
     ensures { λ b. ⌜ Hopeless p (now (d .entry)) b ⌝ }
 {
     let resource = p.resource;

@@ -6,7 +6,7 @@ use native.Mathlib.Omega.{arith}
 use native.Mathlib.Nat.{mul-le-mul, div-le-self}
 use borrow.Author.Needs.{needs}
 use borrow.Author.Tests.{ltb-true}
-use Rattle.sizes.specs.Sizes.{mostInstances, mostIntervals}
+use Rattle.sizes.specs.Sizes.{mostOperations, mostIntervals}
 use Rattle.laws.specs.Z.{true-false}
 use Rattle.saturation.proofs.crowded.Statement.{statement}
 use Rattle.saturation.proofs.crowded.Tie as tie
@@ -20,7 +20,7 @@ div-room c = search needs
 mul-result : tie.Need-mul-result
 mul-result c =
     let s = c .before in
-    omega (arith, mul-le-mul {n₁ = s .args .instances} {m₁ = s .args .interval / s .args .busy} {n₂ = mostInstances} {m₂ = mostIntervals} (s .pre .2) (omega (arith, s .pre .1, div-le-self (s .args .interval) (s .args .busy))))
+    omega (arith, mul-le-mul {n₁ = s .args .instances} {m₁ = s .args .interval / s .args .busy} {n₂ = mostOperations} {m₂ = mostIntervals} (s .pre .2) (omega (arith, s .pre .1, div-le-self (s .args .interval) (s .args .busy))))
 
 returns-2 : tie.Need-returns-2
 returns-2 c = record { yes = λ e. (omega (arith, c .if1 .left), ltb-true _ _ e) }

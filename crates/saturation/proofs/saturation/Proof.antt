@@ -12,10 +12,10 @@ use Rattle.saturation.proofs.saturation.Statement.{statement}
 use Rattle.saturation.proofs.saturation.Tie as tie
 
 abbrev Inv-loop : tie.InvT-loop
-Inv-loop p changed resource d₀ kind₀ d kind = (kind ≤ mostTypes) × Keeps (PlanOf p) (p .ops) d₀ d
+Inv-loop p d₀ changed resource kind₀ d kind = (kind ≤ mostTypes) × Keeps (PlanOf p) (p .ops) d₀ d
 
 abbrev μ-loop : tie.MeasureT-loop
-μ-loop p changed resource d₀ kind₀ d kind = mostTypes - kind
+μ-loop p d₀ changed resource kind₀ d kind = mostTypes - kind
 
 loop-holds : tie.Need-loop-holds Inv-loop μ-loop
 loop-holds c = (omega arith, keeps-self (PlanOf (c .before .args .p)) _ _)

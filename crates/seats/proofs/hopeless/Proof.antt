@@ -33,7 +33,7 @@ worth-requires : tie.Need-worth-requires Inv-loop μ-loop
 worth-requires c κs = search needs
 
 type-hopeless-requires : tie.Need-type-hopeless-requires Inv-loop μ-loop
-type-hopeless-requires c κs = let q = c .before .worth .ensures (c .if1 .taken) in (c .before .before .before .before .before .before .pre, c .before .before .before .before .loop-test .taken, q .0, q .1)
+type-hopeless-requires c κs = let q = c .before .worth .ensures (c .if1 .taken) in (c .before .before .before .before .before .before .pre, c .before .before .before .before .loop-test .taken, q .0, q .1, q .2)
 
 returns : tie.Need-returns Inv-loop μ-loop
 returns c = let q = c .before .type-hopeless .ensures in record { yes = λ _. q .yes (c .if2 .taken) }

@@ -33,9 +33,9 @@ seat-requires c κs =
         ops-ok = ok .ops-ok;
         interval-ok = ok .interval-ok;
         interval-max = ok .interval-max;
-        instances-ok = ok .instances-ok (s .args .kind) (s .pre .1);
+        instances-ok = ok .instances-busy (s .args .kind) (s .pre .1) (s .pre .3);
         busy-some = ok .busy-some (s .args .kind) (s .pre .1);
-        fits = s .pre .3;
+        fits = s .pre .4;
         pins-ok = c .before .before .pins .ensures .small;
       },
       seats-none _,

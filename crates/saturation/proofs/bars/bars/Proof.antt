@@ -6,26 +6,26 @@ use native.Mathlib.Omega.{arith}
 use lib.ListN.{getD-replicate}
 use borrow.Author.Needs.{needs}
 use borrow.Author.Tests.{eqb-true}
-use Rattle.sizes.specs.Sizes.{mostOperations, mostInstances}
+use Rattle.sizes.specs.Sizes.{mostOperations}
 use Rattle.laws.specs.Entry.{vec}
 use Rattle.saturation.specs.BarLaws.{widened-small, widened-at, Caps, caps-start, caps-next, caps-over, caps-full, caps-done}
 use Rattle.saturation.proofs.bars.bars.Statement.{statement}
 use Rattle.saturation.proofs.bars.bars.Tie as tie
 
 abbrev Inv-loop : tie.InvT-loop
-Inv-loop resource ops interval instances busy most used reach kind s counts bar₀ some₀ seem₀ cover₀ w₀ bar some seem cover w =
-    (w ≤ interval) × (cover .cap ≤ w * mostInstances) × Caps ops (vec resource) interval instances busy kind s used reach w (cover .covered) (cover .cap) bar
+Inv-loop case resource used touch reach s ops interval kind counts bar₀ wide₀ seem₀ touched₀ cover₀ w₀ bar wide seem touched cover w =
+    (w ≤ interval) × (cover .cap ≤ w * mostOperations) × Caps ops (vec resource) interval (case .instances) (case .busy) kind s used reach w (cover .covered) (cover .cap) bar
 
 abbrev μ-loop : tie.MeasureT-loop
-μ-loop resource ops interval instances busy most used reach kind s counts bar₀ some₀ seem₀ cover₀ w₀ bar some seem cover w = interval - w
+μ-loop case resource used touch reach s ops interval kind counts bar₀ wide₀ seem₀ touched₀ cover₀ w₀ bar wide seem touched cover w = interval - w
 
 -- one slot more
 grown : (c : tie.After-widened Inv-loop μ-loop) → let s = c .before .before .before .before .before .before in let l = c .before .before .before .before .loop in
-    Caps (s .args .ops) (vec (s .args .resource .now)) (s .args .interval) (s .args .instances) (s .args .busy) (s .args .kind) (s .args .s) (s .args .used .now) (s .args .reach .now) (l .w + 1) (c .widened .result .covered) (c .widened .result .cap) (l .bar)
+    Caps (s .args .case .ops) (vec (s .args .resource .now)) (s .args .case .interval) (s .args .case .instances) (s .args .case .busy) (s .args .case .kind) (s .args .s) (s .args .used .now) (s .args .reach .now) (l .w + 1) (c .widened .result .covered) (c .widened .result .cap) (l .bar)
 grown c =
     let s = c .before .before .before .before .before .before in
     let l = c .before .before .before .before .loop in
-    caps-next (s .args .ops) (vec (s .args .resource .now)) (s .args .interval) (s .args .instances) (s .args .busy) (s .args .kind) (s .args .s) (omega (arith, s .pre)) (s .pre .2) (s .args .used .now) (s .args .reach .now) (c .before .before .before .loop-test .taken) (s .pre .4) (l .inv .2)
+    caps-next (s .args .case .ops) (vec (s .args .resource .now)) (s .args .case .interval) (s .args .case .instances) (s .args .case .busy) (s .args .case .kind) (s .args .s) (omega (arith, s .pre .1)) (s .pre .1) (s .args .used .now) (s .args .reach .now) (c .before .before .before .loop-test .taken) (s .pre .0 .busy-some) (l .inv .2)
     (widened-at (s .args .used .now) (c .before .before .slot-at .ensures .0) (c .widened .ensures))
 
 reach-counts-requires : tie.Need-reach-counts-requires Inv-loop μ-loop
@@ -37,7 +37,7 @@ array-read-seem c = search needs
 loop-holds : tie.Need-loop-holds Inv-loop μ-loop
 loop-holds c =
     let s = c .before in
-    (omega arith, omega arith, caps-start (s .args .ops) (vec (s .args .resource .now)) (s .args .interval) (s .args .instances) (s .args .busy) (s .args .kind) (s .args .s) (omega (arith, s .pre)) (s .pre .2) (s .args .used .now) (s .args .reach .now) (λ i h. getD-replicate mostOperations i 0 0 (omega (arith, s .pre .0))))
+    (omega arith, omega arith, caps-start (s .args .case .ops) (vec (s .args .resource .now)) (s .args .case .interval) (s .args .case .instances) (s .args .case .busy) (s .args .case .kind) (s .args .s) (omega (arith, s .pre .1)) (s .pre .1) (s .args .used .now) (s .args .reach .now) (λ i h. getD-replicate mostOperations i 0 0 (omega (arith, s .pre .0 .ops-ok))))
 
 slot-at-requires : tie.Need-slot-at-requires Inv-loop μ-loop
 slot-at-requires c κs = search needs
@@ -48,7 +48,13 @@ element-copy-out-widened c = search needs
 widened-requires : tie.Need-widened-requires Inv-loop μ-loop
 widened-requires c κs =
     let s = c .before .before .before .before .before in
-    (omega (arith, s .pre .1, c .before .before .loop-test .taken), c .before .before .before .loop .inv .1, s .pre .3, s .pre .5)
+    (omega (arith, s .pre .0 .interval-max, c .before .before .loop-test .taken), c .before .before .before .loop .inv .1, s .pre .0 .instances-ok, s .pre .0 .busy-ok)
+
+element-copy-out-more : tie.Need-element-copy-out-more Inv-loop μ-loop
+element-copy-out-more c = search needs
+
+more-requires : tie.Need-more-requires Inv-loop μ-loop
+more-requires c κs = search needs
 
 add-w : tie.Need-add-w Inv-loop μ-loop
 add-w c = search needs
@@ -67,8 +73,8 @@ with-bars-requires c κs = search needs
 
 returns : tie.Need-returns Inv-loop μ-loop
 returns c =
-    let s = c .before .before .before .before .before .before .before .before .before .before in
-    caps-done (s .args .ops) (vec (s .args .resource .now)) (s .args .interval) (s .args .instances) (s .args .busy) (s .args .kind) (s .args .s) (omega (arith, s .pre)) (s .pre .2) (s .args .used .now) (s .args .reach .now) (grown (c .before .before .before .before)) (c .with-bars .ensures)
+    let s = c .before .before .before .before .before .before .before .before .before .before .before .before .before in
+    caps-done (s .args .case .ops) (vec (s .args .resource .now)) (s .args .case .interval) (s .args .case .instances) (s .args .case .busy) (s .args .case .kind) (s .args .s) (omega (arith, s .pre .1)) (s .pre .1) (s .args .used .now) (s .args .reach .now) (grown (c .before .before .before .before .before .before .before)) (c .with-bars .ensures)
 
 worth-requires : tie.Need-worth-requires Inv-loop μ-loop
 worth-requires c κs = search needs
@@ -78,23 +84,23 @@ inside-requires c κs = search needs
 
 returns-2 : tie.Need-returns-2 Inv-loop μ-loop
 returns-2 c =
-    let s = c .before .before .before .before .before .before .before .before .before .before .before .before .before .before in
-    caps-over (s .args .ops) (vec (s .args .resource .now)) (s .args .interval) (s .args .instances) (s .args .busy) (s .args .kind) (s .args .s) (omega (arith, s .pre)) (s .pre .2) (s .args .used .now) (s .args .reach .now) (grown (c .before .before .before .before .before .before .before .before)) (c .before .before .inside .ensures) (c .if3 .taken)
+    let s = c .before .before .before .before .before .before .before .before .before .before .before .before .before .before .before .before .before in
+    caps-over (s .args .case .ops) (vec (s .args .resource .now)) (s .args .case .interval) (s .args .case .instances) (s .args .case .busy) (s .args .case .kind) (s .args .s) (omega (arith, s .pre .1)) (s .pre .1) (s .args .used .now) (s .args .reach .now) (grown (c .before .before .before .before .before .before .before .before .before .before .before)) (c .before .before .inside .ensures) (c .if3 .taken)
 
 raised-requires : tie.Need-raised-requires Inv-loop μ-loop
-raised-requires c κs = search needs
+raised-requires c κs = c .before .before .before .before .before .before .before .before .before .before .before .before .before .before .before .before .before .before .before .pre .0 .ops-ok
 
 loop-less : tie.Need-loop-less Inv-loop μ-loop
 loop-less c = search needs
 
 loop-again : tie.Need-loop-again Inv-loop μ-loop
 loop-again c =
-    let s = c .before .before .before .before .before .before .before .before .before .before .before .before .before .before .before .before .before in
-    let g = c .before .before .before .before .before .before .before .before .before .before .before in
+    let s = c .before .before .before .before .before .before .before .before .before .before .before .before .before .before .before .before .before .before .before .before in
+    let g = c .before .before .before .before .before .before .before .before .before .before .before .before .before .before in
     let l = g .before .before .before .before .loop in (
       omega (arith, g .before .before .before .loop-test .taken),
-      widened-small _ (g .widened .ensures) (s .pre .3) (l .inv .1),
-      caps-full (s .args .ops) (vec (s .args .resource .now)) (s .args .interval) (s .args .instances) (s .args .busy) (s .args .kind) (s .args .s) (omega (arith, s .pre)) (s .pre .2) (s .args .used .now) (s .args .reach .now) (grown g) (c .before .before .before .before .before .inside .ensures) (λ e. eqb-true _ _ e) (c .raised .ensures),
+      widened-small _ (g .widened .ensures) (s .pre .0 .instances-ok) (l .inv .1),
+      caps-full (s .args .case .ops) (vec (s .args .resource .now)) (s .args .case .interval) (s .args .case .instances) (s .args .case .busy) (s .args .case .kind) (s .args .s) (omega (arith, s .pre .1)) (s .pre .1) (s .args .used .now) (s .args .reach .now) (grown g) (c .before .before .before .before .before .inside .ensures) (λ e. eqb-true _ _ e) (c .raised .ensures),
     )
 
 loop-less-2 : tie.Need-loop-less-2 Inv-loop μ-loop
@@ -102,10 +108,10 @@ loop-less-2 c = search needs
 
 loop-again-2 : tie.Need-loop-again-2 Inv-loop μ-loop
 loop-again-2 c =
-    let s = c .before .before .before .before .before .before .before .before .before .before .before in
-    let g = c .before .before .before .before .before in
+    let s = c .before .before .before .before .before .before .before .before .before .before .before .before .before .before in
+    let g = c .before .before .before .before .before .before .before .before in
     let l = g .before .before .before .before .loop in
-    (omega (arith, g .before .before .before .loop-test .taken), widened-small _ (g .widened .ensures) (s .pre .3) (l .inv .1), grown g)
+    (omega (arith, g .before .before .before .loop-test .taken), widened-small _ (g .widened .ensures) (s .pre .0 .instances-ok) (l .inv .1), grown g)
 
 with-bars-requires-2 : tie.Need-with-bars-requires-2 Inv-loop μ-loop
 with-bars-requires-2 c κs = search needs
@@ -113,7 +119,7 @@ with-bars-requires-2 c κs = search needs
 returns-3 : tie.Need-returns-3 Inv-loop μ-loop
 returns-3 c =
     let s = c .before .before .before .before in
-    caps-done (s .args .ops) (vec (s .args .resource .now)) (s .args .interval) (s .args .instances) (s .args .busy) (s .args .kind) (s .args .s) (omega (arith, s .pre)) (s .pre .2) (s .args .used .now) (s .args .reach .now) (c .before .before .loop .inv .2) (c .with-bars2 .ensures)
+    caps-done (s .args .case .ops) (vec (s .args .resource .now)) (s .args .case .interval) (s .args .case .instances) (s .args .case .busy) (s .args .case .kind) (s .args .s) (omega (arith, s .pre .1)) (s .pre .1) (s .args .used .now) (s .args .reach .now) (c .before .before .loop .inv .2) (c .with-bars2 .ensures)
 
 pub bars-spec : {M : Type 1} → statement M
 bars-spec =
@@ -127,6 +133,8 @@ bars-spec =
     slot-at-requires
     element-copy-out-widened
     widened-requires
+    element-copy-out-more
+    more-requires
     add-w
     mul-wrapping-add-u32
     array-read-wrapping-add-u32
