@@ -1,0 +1,5 @@
+-- ---- definitions to believe
+pub mod Relax
+-- ---- laws
+pub mod Coarse
+pub mod Anchor
