@@ -1,2 +1,5 @@
+-- ---- definitions to believe
 pub mod Steps
+-- ---- laws
 pub mod StepLaws
+pub mod StageLaws

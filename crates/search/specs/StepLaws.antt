@@ -1,5 +1,5 @@
 -- Laws of the parts of the search. Assumes nothing.
-use mathlib.Core.Path.{_≡_, sym, subst, _∙_}
+use mathlib.Core.Path.{_≡_, refl, sym, subst, _∙_}
 use mathlib.Core.Bool.{Bool, true, false}
 use mathlib.Core.Logic.{_≢_}
 use mathlib.Core.List.{List}
@@ -10,7 +10,7 @@ use Rattle.laws.specs.Entry.{vec}
 use Rattle.laws.specs.Z.{true-false}
 use Rattle.domain.specs.Domain.{has, rowOf, Solved}
 use Rattle.domain.specs.Split.{Splits, LeastStarts, pinned-none}
-use Rattle.search.specs.Steps.{Bare, Loose, Looked}
+use Rattle.search.specs.Steps.{Bare, Loose, Looked, Budgeted}
 
 module _ {n : ℕ} {d : List (List Bool)} {x : List ℕ} {b : ℕ} (z : LeastStarts n d x) (w : Bare n x b) (full : b ≡ n) where
   start-small : (i : ℕ) → i < n → vec x i < mostStarts
@@ -34,3 +34,24 @@ module _ (Plan : (ℕ → ℕ) → Type 0) (n : ℕ) (d : List (List Bool)) wher
     done = λ q. true-false (sym q ∙ e .0);
     split = λ _. subst (λ (a : ℕ). Splits n d a m) (sym (e .1)) (subst (λ (b : ℕ). Splits n d i b) (sym (e .2)) s);
   }
+
+  -- ---- a budget
+
+  -- an answer
+  pub told : {bounded over y yes : Bool} {x starts : List ℕ} → Solved Plan n d y x → (over ≡ false) × (yes ≡ y) × (starts ≡ x) → Budgeted Plan n d bounded over yes starts
+  told {bounded} {over} {y} {yes} {x} {starts} s e = record {
+    end = λ q. true-false (sym q ∙ e .0);
+    solved = λ _. subst (λ (b : Bool). Solved Plan n d b starts) (sym (e .1)) (subst (λ (l : List ℕ). Solved Plan n d y l) (sym (e .2)) s);
+  }
+
+  -- no answer
+  pub ended : {bounded over yes : Bool} {starts : List ℕ} → bounded ≡ true → over ≡ true → Budgeted Plan n d bounded over yes starts
+  ended b e = record { end = λ _. b; solved = λ q. true-false (sym e ∙ q) }
+
+  -- a search without bound is not over
+  pub not-over : {over yes : Bool} {starts : List ℕ} → Budgeted Plan n d false over yes starts → Solved Plan n d yes starts
+  not-over {over} b = b .solved (pick over refl)
+    where
+      pick : (o : Bool) → over ≡ o → over ≡ false
+      pick true e = true-false (sym (b .end e))
+      pick false e = e

@@ -5,7 +5,7 @@ ghost use mathlib.Core.Bool.{true, false};
 ghost use Prim.Native.Nat.{ℕ, _+_, _≤_, _<_};
 ghost use Rattle.domain.specs.Domain.{Keeps};
 ghost use Rattle.domain.specs.First.{Held, Tried};
-ghost use Rattle.task.specs.Plan.{Ready, PlanOf};
+ghost use Rattle.task.specs.Plan.{TaskOk, PlanOf};
 use crate::First;
 use crate::choose::single;
 use crate::look::first_bare;
@@ -17,7 +17,7 @@ use task::Task;
 
 // The domain narrowed after its row of i changed, if it did.
 fn narrowed(p: Task, d: Domain, i: usize, changed: bool) -> Domain
-    requires { ⌜ Ready p × (i < p .ops) ⌝ }
+    requires { ⌜ TaskOk p × (i < p .ops) ⌝ }
     ensures { λ r. ⌜ Keeps (PlanOf p) (p .ops) d r ⌝ }
 {
     if changed {
@@ -37,7 +37,7 @@ fn no_answer() -> First
 
 // The least starts of the domain, if they are a plan.
 fn least_plan(p: Task, d: Domain) -> First
-    requires { ⌜ Ready p ⌝ }
+    requires { ⌜ TaskOk p ⌝ }
     ensures { λ r. ⌜ Held (PlanOf p) (p .ops) d (r .yes) (r .starts) ⌝ }
 {
     let ops = p.ops;
@@ -55,19 +55,25 @@ fn least_plan(p: Task, d: Domain) -> First
     no_answer()
 }
 
-// The first plan in the domain, or no answer.
+// The first plan in a narrowed domain, or no answer: it is found as soon as the least starts are a plan.
 pub fn eager(p: Task, ok: Domain) -> First
-    requires { ⌜ Ready p ⌝ }
+    requires { ⌜ TaskOk p ⌝ }
     ensures { λ r. ⌜ Tried (PlanOf p) (p .ops) ok (r .yes) (r .starts) ⌝ }
 {
     let ops = p.ops;
-    let mut d = narrow::narrow(p, ok, [true; MOST_OPERATIONS]);
+    let mut d = ok;
     let mut i: usize = 0;
     while i < ops {
         let x = least_starts(d, ops);
         let b = first_bare(x, ops);
         if b < ops {
             return no_answer();
+        }
+        if task::is_plan(p, x) {
+            return First {
+                yes: true,
+                starts: x,
+            };
         }
         let several = domain::other_class(d[i], x[i], MOST_STARTS);
         d[i] = domain::only(x[i]);

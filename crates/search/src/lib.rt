@@ -1,19 +1,28 @@
-// A plan in a domain, or none: narrow, try the least starts, split; and the first plan of all.
+// A plan in a domain, or none: narrow, try the least starts, split; and the first plan of all. Where a short search
+// does not tell, questions that ask less (`relax`) may tell that there is none.
 // An inner layer, a crate of its own for the check's time: `search` and `first_plan` ask for a task whose numbers are
-// within its arrays and whose lags every plan keeps (`Ready`).
-// Caller: schedule::plan_at, which proves `Ready` from the sheet and from what `dependence` promises.
+// within its arrays (`TaskOk`).
+// Caller: schedule::plan_at, which proves `TaskOk` from the sheet and from what `dependence` promises.
 ghost use mathlib.Core.Path.{_≡_};
 ghost use mathlib.Core.Bool.{true, false};
 ghost use Prim.Native.Nat.{ℕ, _+_, _≤_, _<_};
 ghost use Rattle.laws.specs.Entry.{vec};
 ghost use Rattle.domain.specs.Domain.{Solved, FirstIn};
 ghost use Rattle.domain.specs.First.{Good, Lowered};
-ghost use Rattle.task.specs.Plan.{Ready, PlanOf};
+ghost use Rattle.task.specs.Plan.{TaskOk, PlanOf};
+ghost use Rattle.search.specs.Steps.{Budgeted};
 
+mod anchors;
+mod budget;
 mod choose;
 mod eager;
 mod look;
+mod stages;
 
+use budget::answer;
+use budget::fewer;
+use budget::no_answer;
+use budget::spent;
 use choose::blamed;
 use choose::single;
 use domain::Domain;
@@ -21,29 +30,41 @@ use eager::eager;
 use look::look;
 use sizes::MOST_OPERATIONS;
 use sizes::MOST_STARTS;
+use stages::some_plan;
 use task::Task;
+
+// Which operations are marked.
+pub type Marks = [bool; MOST_OPERATIONS];
 
 // How often each operation was found at fault: it only guides the choice.
 pub type Blame = [u32; MOST_OPERATIONS];
 
+// What a search answers: that it is over and says nothing, or whether there is a plan, and one.
 pub struct Found {
+    pub over: bool,
     pub yes: bool,
     pub starts: [usize; MOST_OPERATIONS],
     pub blame: Blame,
+    pub left: u32,
 }
 
-// A plan in the domain, or none; `dirty` marks the rows that are new to the rules.
-// Left free: which plan it is, `blame`, which only guides the search, and `starts` where none was found and past `ops`.
-pub fn search(p: Task, ok: Domain, dirty: [bool; MOST_OPERATIONS], blame: Blame) -> Found
-    requires { ⌜ Ready p ⌝ }
-    ensures { λ r. ⌜ Solved (PlanOf p) (p .ops) ok (r .yes) (r .starts) ⌝ }
+// A plan in the domain, or none; `dirty` marks the rows that are new to the rules. A bounded search is over after
+// `left` nodes, and then it says nothing. A node is one call.
+// Left free: which plan it is, `blame`, which only guides the search, `left`, `yes` where the search is over, and
+// `starts` where none was found and past `ops`.
+pub fn search(p: Task, ok: Domain, dirty: Marks, blame: Blame, bounded: bool, left: u32) -> Found
+    requires { ⌜ TaskOk p ⌝ }
+    ensures { λ r. ⌜ Budgeted (PlanOf p) (p .ops) ok bounded (r .over) (r .yes) (r .starts) ⌝ }
 {
+    if spent(bounded, left) {
+        return no_answer(blame);
+    }
     let d = narrow::narrow(p, ok, dirty);
     let k = look(p, d, blame);
+    let mut rest = fewer(left);
     if k.done {
-        let yes = k.yes;
         let starts = k.starts;
-        return Found { yes, starts, blame };
+        return answer(k.yes, starts, blame, rest);
     }
     let i = k.op;
     let m = k.modulus;
@@ -53,30 +74,38 @@ pub fn search(p: Task, ok: Domain, dirty: [bool; MOST_OPERATIONS], blame: Blame)
     loop {
         let t = domain::least(row);
         if t == MOST_STARTS {
-            return Found {
-                yes: false,
-                starts: [0; MOST_OPERATIONS],
-                blame: counts,
-            };
+            return answer(false, [0; MOST_OPERATIONS], counts, rest);
         }
         let s = t % m;
         let mut c = d;
         c[i] = domain::only_class(row, s, m);
-        let g = search(p, c, one, counts);
+        let g = search(p, c, one, counts, bounded, rest);
+        if g.over {
+            return g;
+        }
         if g.yes {
             return g;
         }
         let told = g.blame;
         let after = blamed(told, i);
         counts = after;
-        let rest = domain::without_class(row, s, m);
-        row = rest;
+        rest = g.left;
+        let others = domain::without_class(row, s, m);
+        row = others;
     }
+}
+
+// A plan in the domain, or none, without a bound.
+fn whole(p: Task, ok: Domain, dirty: Marks) -> Found
+    requires { ⌜ TaskOk p ⌝ }
+    ensures { λ r. ⌜ Solved (PlanOf p) (p .ops) ok (r .yes) (r .starts) ⌝ }
+{
+    search(p, ok, dirty, [1; MOST_OPERATIONS], false, 0)
 }
 
 // A plan in the domain whose start of i is least, from some plan in it.
 fn lowered(p: Task, d: Domain, x: [usize; MOST_OPERATIONS], i: usize) -> [usize; MOST_OPERATIONS]
-    requires { ⌜ Ready p × (i < p .ops) × Good (PlanOf p) (p .ops) d x ⌝ }
+    requires { ⌜ TaskOk p × (i < p .ops) × Good (PlanOf p) (p .ops) d x ⌝ }
     ensures { λ r. ⌜ Lowered (PlanOf p) (p .ops) d i r ⌝ }
 {
     let low = domain::least(d[i]);
@@ -88,9 +117,9 @@ fn lowered(p: Task, d: Domain, x: [usize; MOST_OPERATIONS], i: usize) -> [usize;
         }
         let mut c = d;
         c[i] = domain::below(d[i], best[i]);
-        let g = search(p, c, one, [1; MOST_OPERATIONS]);
-        if g.yes {
-            best = g.starts;
+        let lower = whole(p, c, one);
+        if lower.yes {
+            best = lower.starts;
         } else {
             return best;
         }
@@ -103,14 +132,14 @@ pub struct First {
     pub starts: [usize; MOST_OPERATIONS],
 }
 
-// The first plan in the domain, from some plan in it: each operation's start is lowered in turn.
+// The first plan in a narrowed domain, from some plan in it: each operation's start is lowered in turn.
 fn from_plan(p: Task, ok: Domain, some: [usize; MOST_OPERATIONS]) -> [usize; MOST_OPERATIONS]
-    requires { ⌜ Ready p × Good (PlanOf p) (p .ops) ok some ⌝ }
+    requires { ⌜ TaskOk p × Good (PlanOf p) (p .ops) ok some ⌝ }
     ensures { λ r. ⌜ FirstIn (PlanOf p) (p .ops) ok true r ⌝ }
 {
     let ops = p.ops;
     let mut x = some;
-    let mut d = narrow::narrow(p, ok, [true; MOST_OPERATIONS]);
+    let mut d = ok;
     let mut i: usize = 0;
     while i < ops {
         let y = lowered(p, d, x, i);
@@ -126,17 +155,18 @@ fn from_plan(p: Task, ok: Domain, some: [usize; MOST_OPERATIONS]) -> [usize; MOS
 // The first plan in the domain by the order of starts, or none. Left free: `starts` where none was found and past
 // `ops`; schedule::plan_at puts 0 there.
 pub fn first_plan(p: Task, ok: Domain) -> First
-    requires { ⌜ Ready p ⌝ }
+    requires { ⌜ TaskOk p ⌝ }
     ensures { λ r. ⌜ FirstIn (PlanOf p) (p .ops) ok (r .yes) (r .starts) ⌝ }
 {
-    let e = eager(p, ok);
+    let d = narrow::narrow(p, ok, [true; MOST_OPERATIONS]);
+    let e = eager(p, d);
     if e.yes {
         return e;
     }
-    let f = search(p, ok, [true; MOST_OPERATIONS], [1; MOST_OPERATIONS]);
+    let f = some_plan(p, d);
     if f.yes {
         let some = f.starts;
-        let x = from_plan(p, ok, some);
+        let x = from_plan(p, d, some);
         return First {
             yes: true,
             starts: x,

@@ -6,7 +6,7 @@ use native.Mathlib.Omega.{arith}
 use lib.ListN.{length}
 use borrow.Author.Needs.{needs}
 use Rattle.sizes.specs.Sizes.{mostOperations}
-use Rattle.domain.specs.First.{Lead, lead-start, lead-next, lead-keeps, lead-done, first-wider}
+use Rattle.domain.specs.First.{Lead, lead-start, lead-next, lead-keeps, lead-done}
 use Rattle.task.specs.Plan.{PlanOf}
 use Rattle.search.proofs.from_plan.Statement.{statement}
 use Rattle.search.proofs.from_plan.Tie as tie
@@ -17,11 +17,8 @@ Inv-loop p ops x₀ d₀ i₀ x d i = (i ≤ ops) × (length d ≡ mostOperation
 abbrev μ-loop : tie.MeasureT-loop
 μ-loop p ops x₀ d₀ i₀ x d i = ops - i
 
-narrow-requires : tie.Need-narrow-requires Inv-loop μ-loop
-narrow-requires c κs = search needs
-
 loop-holds : tie.Need-loop-holds Inv-loop μ-loop
-loop-holds c = let s = c .before in (omega arith, search needs, lead-start (PlanOf (s .args .p)) _ (record { inside = c .narrow .ensures .kept _ (s .pre .1 .plan) (s .pre .1 .inside); plan = s .pre .1 .plan }))
+loop-holds c = (omega arith, search needs, lead-start (PlanOf (c .args .p)) _ (c .pre .1))
 
 lowered-requires : tie.Need-lowered-requires Inv-loop μ-loop
 lowered-requires c κs = search needs
@@ -44,8 +41,8 @@ array-set-from-d c = search needs
 single-requires : tie.Need-single-requires Inv-loop μ-loop
 single-requires c κs = search needs
 
-narrow-requires-2 : tie.Need-narrow-requires-2 Inv-loop μ-loop
-narrow-requires-2 c κs = search needs
+narrow-requires : tie.Need-narrow-requires Inv-loop μ-loop
+narrow-requires c κs = search needs
 
 add-i : tie.Need-add-i Inv-loop μ-loop
 add-i c = search needs
@@ -54,11 +51,11 @@ loop-less : tie.Need-loop-less Inv-loop μ-loop
 loop-less c = search needs
 
 loop-again : tie.Need-loop-again Inv-loop μ-loop
-loop-again c = let l = c .before .before .before .before .before .loop in let h = c .before .before .before .before .loop-test .taken in let s = c .before .before .before .before .before .before .before in
-    (omega (arith, h), search needs, lead-keeps (PlanOf (s .args .p)) _ (omega (arith, h)) (lead-next (PlanOf (s .args .p)) _ (omega (arith, l .inv .1, h, s .pre .0 .task .ops-ok)) h (l .inv .2) (c .before .before .before .lowered .ensures) (c .before .before .only .ensures)) (c .narrow2 .ensures))
+loop-again c = let l = c .before .before .before .before .before .loop in let h = c .before .before .before .before .loop-test .taken in let s = c .before .before .before .before .before .before in
+    (omega (arith, h), search needs, lead-keeps (PlanOf (s .args .p)) _ (omega (arith, h)) (lead-next (PlanOf (s .args .p)) _ (omega (arith, l .inv .1, h, s .pre .0 .ops-ok)) h (l .inv .2) (c .before .before .before .lowered .ensures) (c .before .before .only .ensures)) (c .narrow .ensures))
 
 returns : tie.Need-returns Inv-loop μ-loop
-returns c = let s = c .before .before .before in first-wider (PlanOf (s .args .p)) _ (c .before .before .narrow .ensures) (lead-done (PlanOf (s .args .p)) _ (c .before .loop .inv .2) (omega (arith, c .before .loop .inv .0, c .loop-test .left)))
+returns c = let s = c .before .before in lead-done (PlanOf (s .args .p)) _ (c .before .loop .inv .2) (omega (arith, c .before .loop .inv .0, c .loop-test .left))
 
 pub from-plan-spec : {M : Type 1} → statement M
 from-plan-spec =
@@ -66,7 +63,6 @@ from-plan-spec =
     (tie.spec
     Inv-loop
     μ-loop
-    narrow-requires
     loop-holds
     lowered-requires
     mul-only
@@ -75,7 +71,7 @@ from-plan-spec =
     mul-d
     array-set-from-d
     single-requires
-    narrow-requires-2
+    narrow-requires
     add-i
     loop-less
     loop-again

@@ -62,17 +62,17 @@ mul-c c = search needs
 array-set-from-c : tie.Need-array-set-from-c Inv-loop μ-loop
 array-set-from-c c = search needs
 
-search-requires : tie.Need-search-requires Inv-loop μ-loop
-search-requires c κs = search needs
+whole-requires : tie.Need-whole-requires Inv-loop μ-loop
+whole-requires c κs = search needs
 
 loop-less : tie.Need-loop-less Inv-loop μ-loop
-loop-less c = let s = c .before .before .before .before .before .before .before .before .before .before in let l = c .before .before .before .before .before .before .loop in let len : s .args .i < length (s .args .t2) = search needs in lower-less (PlanOf (s .args .p)) _ (s .args .t2) (s .args .i) (l .best) len (s .pre .1) (c .before .before .before .below .ensures) (c .before .before .search .ensures) (c .before .if2 .taken)
+loop-less c = let s = c .before .before .before .before .before .before .before .before .before .before in let l = c .before .before .before .before .before .before .loop in let len : s .args .i < length (s .args .t2) = search needs in lower-less (PlanOf (s .args .p)) _ (s .args .t2) (s .args .i) (l .best) len (s .pre .1) (c .before .before .before .below .ensures) (c .before .before .whole .ensures) (c .before .if2 .taken)
 
 loop-again : tie.Need-loop-again Inv-loop μ-loop
-loop-again c = let s = c .before .before .before .before .before .before .before .before .before .before in let l = c .before .before .before .before .before .before .loop in let len : s .args .i < length (s .args .t2) = search needs in (search needs, lower-found (PlanOf (s .args .p)) _ (s .args .t2) (s .args .i) (l .best) len (s .pre .1) (c .before .before .before .below .ensures) (c .before .before .search .ensures) (c .before .if2 .taken))
+loop-again c = let s = c .before .before .before .before .before .before .before .before .before .before in let l = c .before .before .before .before .before .before .loop in let len : s .args .i < length (s .args .t2) = search needs in (search needs, lower-found (PlanOf (s .args .p)) _ (s .args .t2) (s .args .i) (l .best) len (s .pre .1) (c .before .before .before .below .ensures) (c .before .before .whole .ensures) (c .before .if2 .taken))
 
 returns-2 : tie.Need-returns-2 Inv-loop μ-loop
-returns-2 c = let s = c .before .before .before .before .before .before .before .before .before in let l = c .before .before .before .before .before .loop in let len : s .args .i < length (s .args .t2) = search needs in lower-done (PlanOf (s .args .p)) _ (s .args .t2) (s .args .i) (l .best) len (s .pre .1) (c .before .before .below .ensures) (l .inv .1) (c .before .search .ensures) (c .if2 .left)
+returns-2 c = let s = c .before .before .before .before .before .before .before .before .before in let l = c .before .before .before .before .before .loop in let len : s .args .i < length (s .args .t2) = search needs in lower-done (PlanOf (s .args .p)) _ (s .args .t2) (s .args .i) (l .best) len (s .pre .1) (c .before .before .below .ensures) (l .inv .1) (c .before .whole .ensures) (c .if2 .left)
 
 pub lowered-spec : {M : Type 1} → statement M
 lowered-spec =
@@ -95,7 +95,7 @@ lowered-spec =
     below-requires
     mul-c
     array-set-from-c
-    search-requires
+    whole-requires
     loop-less
     loop-again
     returns-2)

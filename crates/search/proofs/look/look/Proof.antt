@@ -24,7 +24,7 @@ returns c = let s = c .before .before .before .before in let z = c .before .befo
 
 is-plan-requires : tie.Need-is-plan-requires
 is-plan-requires c κs = let s = c .before .before .before in let w = c .before .first-bare .ensures in
-    (s .pre .task, record { small = λ i l. w .before i (omega (arith, c .if1 .left, w .within)) })
+    (s .pre, record { small = λ i l. w .before i (omega (arith, c .if1 .left, w .within)) })
 
 answer-requires-2 : tie.Need-answer-requires-2
 answer-requires-2 c κs = search needs
@@ -34,7 +34,7 @@ returns-2 c = let s = c .before .before .before .before .before .before in let z
     looked-done _ _ _ (solved-found (PlanOf (s .args .p)) _ (low-in (PlanOf (s .args .p)) _ z (is-plan-requires (c .before .before .before) tt .1 .small)) (c .before .before .is-plan .ensures .yes (c .before .if2 .taken))) (c .answer2 .ensures)
 
 choose-requires : tie.Need-choose-requires
-choose-requires c κs = let s = c .before .before .before .before .before in (s .pre .task .ops-ok, s .pre .task .interval-ok, omega (arith, s .pre .task .interval-max))
+choose-requires c κs = let s = c .before .before .before .before .before in (s .pre .ops-ok, s .pre .interval-ok, omega (arith, s .pre .interval-max))
 
 mul-other-class : tie.Need-mul-other-class
 mul-other-class c = search needs
@@ -57,7 +57,7 @@ split-requires c κs = search needs
 returns-3 : tie.Need-returns-3
 returns-3 c = let s = c .before .before .before .before .before .before .before .before .before .before .before in let z = c .before .before .before .before .before .before .before .before .before .before .least-starts .ensures in let w = c .before .before .before .before .before .before .before .before .before .first-bare .ensures in
     let y = c .before .before .other-class .ensures .yes (c .before .if4 .taken) in
-    looked-split (PlanOf (s .args .p)) _ _ (split-at z w (omega (arith, w .within, c .before .before .before .before .before .before .before .before .if1 .left)) (c .before .before .before .before .if3 .taken) (s .pre .task .interval-ok) (y .1) (y .2) (y .3)) (c .split .ensures)
+    looked-split (PlanOf (s .args .p)) _ _ (split-at z w (omega (arith, w .within, c .before .before .before .before .before .before .before .before .if1 .left)) (c .before .before .before .before .if3 .taken) (s .pre .interval-ok) (y .1) (y .2) (y .3)) (c .split .ensures)
 
 first-loose-requires : tie.Need-first-loose-requires
 first-loose-requires c κs = search needs
@@ -76,7 +76,7 @@ answer-requires-3 c κs = search needs
 returns-5 : tie.Need-returns-5
 returns-5 c = let s = c .before .before .before .before .before .before .before .before .before .before in let z = c .before .before .before .before .before .before .before .before .before .least-starts .ensures in let w = c .before .before .before .before .before .before .before .before .first-bare .ensures in
     let g = c .before .before .first-loose .ensures in
-    looked-done (PlanOf (s .args .p)) _ _ (all-pinned z w (omega (arith, w .within, c .before .before .before .before .before .before .before .if1 .left)) (PlanOf (s .args .p)) (plan-local _ (s .pre .task)) g (omega (arith, g .within, c .before .if5 .left)) (c .before .before .before .before .before .before .is-plan .ensures .no (c .before .before .before .before .before .if2 .left))) (c .answer3 .ensures)
+    looked-done (PlanOf (s .args .p)) _ _ (all-pinned z w (omega (arith, w .within, c .before .before .before .before .before .before .before .if1 .left)) (PlanOf (s .args .p)) (plan-local _ (s .pre)) g (omega (arith, g .within, c .before .if5 .left)) (c .before .before .before .before .before .before .is-plan .ensures .no (c .before .before .before .before .before .if2 .left))) (c .answer3 .ensures)
 
 pub look-spec : {M : Type 1} → statement M
 look-spec =
