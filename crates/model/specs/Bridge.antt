@@ -4,7 +4,7 @@ use mathlib.Core.Path.{_≡_, refl, sym, ap, subst, _∙_}
 use mathlib.Core.Bool.{Bool, true, false}
 use mathlib.Core.Logic.{_⊎_, inl, inr, ⊎-elim}
 use mathlib.Core.List.{List}
-use Prim.Native.Nat.{ℕ, _<_, _≤_}
+use Prim.Native.Nat.{ℕ, _<_}
 use native.Mathlib.Omega.{arith}
 use native.Mathlib.Decide.{decLt}
 use lib.IntN.{ℤ}
@@ -12,8 +12,9 @@ use Rattle.sizes.specs.Sizes.{mostTypes, mostStarts}
 use Rattle.laws.specs.Entry.{vec}
 use Rattle.laws.specs.Says.{says-true}
 use Rattle.held_slots.specs.Seated.{SeatedIn}
+use Rattle.dependence.specs.Answer.{Lags}
 use Rattle.sheet.specs.declared.Sheet.{Sheet}
-use Rattle.sheet.specs.Sheet.{InRange, Interval, Limited, typeAt, typeOf, opAt}
+use Rattle.sheet.specs.Sheet.{InRange, Interval, Limited, typeAt, typeOf, opAt, graphOf}
 use Rattle.sheet.specs.Facts.{horizon-most, ops-most, types-most, resource-below}
 use Rattle.plan.specs.Rules.{Plan, StartAllowed}
 use Rattle.plan.specs.Seated.{resourceOf, SeatedAt, plan-seated, seated-below, seated-apart}
@@ -30,7 +31,7 @@ use Rattle.instances.specs.SeatOrder.{seats-before}
 use Rattle.arrays.specs.Cut.{Cut}
 use Rattle.model.specs.Domain.{DomainFor}
 use Rattle.model.specs.Task.{TaskFor}
-use Rattle.model.specs.Ready.{op-in, task-ok, task-meets, meets-task}
+use Rattle.model.specs.TaskLaws.{op-in, type-in, task-ok, lags-kept, lags-enough}
 
 -- the first instances for the starts x of a task, if they have any
 abbrev pub SeatsFor : Task → List ℕ → List ℕ → Type 0
@@ -45,9 +46,14 @@ seated-part n m ty ty' l a k r t u within same p = record {
       (record { different = c .different; first = same i h ∙ c .first; second = same j b ∙ c .second; share = c .share });
 }
 
-module _ (s : Sheet) (L : ℕ) (table : List (List ℤ)) (p : Task) (ok : InRange s) (iv : Interval s L) (f : TaskFor s L table p) where
+module _ (s : Sheet) (L : ℕ) (table : List (List ℤ)) (p : Task) (ok : InRange s) (iv : Interval s L) (f : TaskFor s L table p)
+    (lags : Lags (graphOf s) L table) where
   op-of : {i : ℕ} → i < s .«op_count» → i < p .ops
   op-of h = omega (arith, f .ops-are)
+
+  -- starts inside the horizon are in the first table
+  start-small : (t : ℕ → ℕ) → ((i : ℕ) → i < s .«op_count» → StartAllowed s L i (t i)) → (i : ℕ) → i < p .ops → t i < mostStarts
+  start-small t a i h = omega (arith, a i (op-in f h) .inHorizon .starts, horizon-most ok)
 
   -- the limit of a type, and of an operation's
   limit-at : (r : ℕ) → r < s .«type_count» → task.instancesOf p r ≡ typeAt s r .instances
@@ -91,7 +97,7 @@ module _ (s : Sheet) (L : ℕ) (table : List (List ℤ)) (p : Task) (ok : InRang
         at (no h) = absurd (omega (arith, a, f .limits-for .rest r (omega arith)))
 
     pub plan-of : task.PlanOf p t
-    plan-of = record { met = meets-task s L table p ok iv f t (q .dependence); seated = λ r h a. (u, seated-of r a) }
+    plan-of = record { lags = lags-kept s L table p ok iv f lags t (start-small t (q .start)) (q .dependence); seated = λ r h a. (u, seated-of r a) }
 
   -- ---- instances for starts that have some
 
@@ -110,7 +116,7 @@ module _ (s : Sheet) (L : ℕ) (table : List (List ℤ)) (p : Task) (ok : InRang
     pub plan-from : Plan s L (vec x) (vec u)
     plan-from = record {
       start = allowed;
-      dependence = task-meets s L table p ok iv f (vec x) q;
+      dependence = lags-enough s L table p ok iv f lags (vec x) (start-small (vec x) allowed) (q .lags);
       instance = λ i h. record {
         limited = λ l. seated-below s L (vec x) (vec u) i h (seated-at i h l);
         unlimited = λ e. seats .unlimited i (op-of h) (limit-of i h ∙ e);
@@ -122,7 +128,7 @@ module _ (s : Sheet) (L : ℕ) (table : List (List ℤ)) (p : Task) (ok : InRang
     pub instances-first : (t' u' : ℕ → ℕ) → Plan s L t' u' → Same (s .«op_count») (vec x) t' → Before (p .ops) (vec u) u'
     instances-first t' u' o e =
         let own = plan-local s L ok t' u' (vec x) u' (same-sym e) (λ i h. refl) o in
-        seats-before (p .ops) (task.typeOf p) (task.instancesOf p) (task.busyOf p) (p .interval) (vec x) (vec u) (task-ok s L table p ok iv f .type-ok) seats u'
+        seats-before (p .ops) (task.typeOf p) (task.instancesOf p) (task.busyOf p) (p .interval) (vec x) (vec u) (type-in s L table p ok iv f) seats u'
         (λ r h a. seated-of (vec x) u' own r a) (λ i h z. own .instance i (op-in f h) .unlimited (sym (limit-of i (op-in f h)) ∙ z))
 
   -- ---- the domain
@@ -130,12 +136,9 @@ module _ (s : Sheet) (L : ℕ) (table : List (List ℤ)) (p : Task) (ok : InRang
   module _ (dom : List (List Bool)) (d : DomainFor s L dom) where
     pub in-domain : (t : ℕ → ℕ) → ((i : ℕ) → i < s .«op_count» → StartAllowed s L i (t i)) → In (p .ops) dom t
     in-domain t a = record {
-      small = λ i h. small i h;
-      allowed = λ i h. says-true _ (d .row i (omega (arith, op-in f h, ops-most ok)) .start (t i) (small i h)) (a i (op-in f h));
+      small = start-small t a;
+      allowed = λ i h. says-true _ (d .row i (omega (arith, op-in f h, ops-most ok)) .start (t i) (start-small t a i h)) (a i (op-in f h));
     }
-      where
-        small : (i : ℕ) → i < p .ops → t i < mostStarts
-        small i h = omega (arith, a i (op-in f h) .inHorizon .starts, horizon-most ok)
 
     pub of-domain : (t : ℕ → ℕ) → In (p .ops) dom t → (i : ℕ) → i < s .«op_count» → StartAllowed s L i (t i)
     of-domain t n i h = d .row i (omega (arith, ops-most ok)) .start (t i) (n .small i (op-of h)) .yes (n .allowed i (op-of h))

@@ -2,6 +2,5 @@
 pub mod Domain
 pub mod Task
 -- ---- laws
-pub mod Parts
-pub mod Ready
+pub mod TaskLaws
 pub mod Bridge

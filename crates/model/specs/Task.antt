@@ -3,49 +3,24 @@ use mathlib.Core.Path.{_≡_}
 use mathlib.Core.List.{List}
 use Prim.Native.Nat.{ℕ, _+_, _*_, _<_, _≤_}
 use lib.ListN.{getD}
-use lib.IntN.{ℤ, pos, negsuc}
-use lib.Signed.{_≤ℤ_}
-use Rattle.sizes.specs.Sizes.{mostOperations, mostEdges, mostTypes, mostStarts}
+use lib.IntN.{ℤ, pos}
+use lib.Signed.{_≤ℤ_, _<ℤ_}
+use Rattle.sizes.specs.Sizes.{mostOperations, mostTypes}
 use Rattle.laws.specs.Entry.{cell}
-use Rattle.dependence.specs.declared.Graph.{Graph}
-use Rattle.dependence.specs.Graph as dependence
-use Rattle.dependence.specs.Answer.{Totals}
 use Rattle.sheet.specs.declared.Sheet.{Sheet}
-use Rattle.sheet.specs.Sheet.{typeAt, opAt, graphOf}
+use Rattle.sheet.specs.Sheet.{typeAt, opAt}
 use Rattle.task.specs.declared.Task.{Task}
+use Rattle.task.specs.Plan.{leastLag, mostLag, SmallLag}
 
 -- the pairs of operations
 abbrev pub pairs : ℕ
 pairs = mostOperations * mostOperations
 
--- the least lag that the dependence part gives, -16384
-abbrev pub leastLag : ℤ
-leastLag = negsuc 16383
-
--- the greatest lag that matters
-abbrev pub mostLag : ℤ
-mostLag = pos mostStarts
-
--- a lag between those
-pub record SmallLag (z : ℤ) : Type 0 where
-  pub low : leastLag ≤ℤ z
-  pub high : z ≤ℤ mostLag
-
--- a small lag that asks no more than z
+-- a small lag that asks no more than z and, of starts below `mostLag`, no less
 pub record Clipped (z r : ℤ) : Type 0 where
   pub small : SmallLag r
   pub under : leastLag ≤ℤ z → r ≤ℤ z
-
--- the ends of the first k edges are operations
-pub record EndsWithin (k : ℕ) (from to : List ℕ) : Type 0 where
-  pub few : k ≤ mostEdges
-  pub source : (e : ℕ) → e < k → getD from e 0 < mostOperations
-  pub target : (e : ℕ) → e < k → getD to e 0 < mostOperations
-
--- the ends of the first k edges of a graph
-pub record EndsFor (g : Graph) (k : ℕ) (from to : List ℕ) : Type 0 where
-  pub source : (e : ℕ) → e < k → getD from e 0 ≡ dependence.edgeAt g e .from
-  pub target : (e : ℕ) → e < k → getD to e 0 ≡ dependence.edgeAt g e .to
+  pub enough : r <ℤ mostLag → z ≤ℤ r
 
 -- the type of each of the first k operations
 pub record TypesFor (s : Sheet) (k : ℕ) (resource : List ℕ) : Type 0 where
@@ -69,9 +44,6 @@ pub record LagsFor (table : List (List ℤ)) (k : ℕ) (lag : List ℤ) : Type 0
 pub record TaskFor (s : Sheet) (L : ℕ) (table : List (List ℤ)) (p : Task) : Type 0 where
   pub ops-are : p .ops ≡ s .«op_count»
   pub interval-is : p .interval ≡ L
-  pub edges-are : p .edges ≡ s .«edge_count»
-  pub ends-for : EndsFor (graphOf s) (s .«edge_count») (p .from) (p .to)
-  pub totals-for : Totals (graphOf s) L (p .total)
   pub types-for : TypesFor s (s .«op_count») (p .resource)
   pub limits-for : LimitsFor s (s .«type_count») (p .instances)
   pub busy-for : BusyFor s (s .«type_count») (p .busy)

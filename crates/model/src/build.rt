@@ -1,30 +1,23 @@
 // The search's task: the sheet at one interval, with the lags that every plan keeps.
 ghost use mathlib.Core.Path.{_≡_};
 ghost use Prim.Native.Nat.{_≤_};
-ghost use Rattle.sizes.specs.Sizes.{mostOperations, mostEdges, mostTypes, mostIntervals};
+ghost use Rattle.sizes.specs.Sizes.{mostOperations, mostTypes, mostIntervals};
+ghost use Rattle.dependence.specs.Graph as dependence;
 ghost use Rattle.sheet.specs.Sheet.{InRange, Interval, graphOf};
-ghost use Rattle.model.specs.Task.{pairs, SmallLag, Clipped, EndsFor, TypesFor, LimitsFor, BusyFor, LagsFor, TaskFor, EndsWithin};
+ghost use Rattle.task.specs.Plan.{SmallLag};
+ghost use Rattle.model.specs.Task.{pairs, Clipped, TypesFor, LimitsFor, BusyFor, LagsFor, TaskFor};
 use dependence::Graph;
 use sheet::Sheet;
-use sizes::MOST_EDGES;
 use sizes::MOST_OPERATIONS;
 use sizes::MOST_STARTS;
 use sizes::MOST_TYPES;
+use task::PAIRS;
 use task::Task;
-
-// Pairs of operations: a lag for each, row by row.
-const PAIRS: usize = MOST_OPERATIONS * MOST_OPERATIONS;
 
 // The greatest lag that matters, as starts are below it, and the least one that the dependence part gives.
 const MOST_LAG: i32 = MOST_STARTS as i32;
 
 const LEAST_LAG: i32 = -16384;
-
-// The ends of a task's edges.
-struct Ends {
-    from: [usize; MOST_EDGES],
-    to: [usize; MOST_EDGES],
-}
 
 // The lags of a task, and the pairs whose lags are worth a look.
 struct Lags {
@@ -32,7 +25,7 @@ struct Lags {
     near: [bool; PAIRS],
 }
 
-// A lag within the starts' reach. A lower one asks less, so no plan is lost.
+// A lag within the starts' reach. It asks no more, so no plan is lost, and of starts below MOST_LAG no less.
 fn clipped(lag: i32) -> i32
     ensures { λ r. ⌜ Clipped lag r ⌝ }
 {
@@ -71,22 +64,6 @@ fn lags_of(table: [[i32; MOST_OPERATIONS]; MOST_OPERATIONS], interval: usize) ->
         near[k] = close(i, j, there, back, interval);
     }
     Lags { lag, near }
-}
-
-// The ends of the edges.
-fn ends_of(graph: Graph) -> Ends
-    requires { ⌜ graph .«edge_count» ≤ mostEdges ⌝ }
-    ensures { λ r. ⌜ EndsFor graph (graph .«edge_count») (r .from) (r .to) ⌝ }
-{
-    let count = graph.edge_count;
-    let mut from = [0usize; MOST_EDGES];
-    let mut to = [0usize; MOST_EDGES];
-    for k in 0..count {
-        let e = graph.edges[k];
-        from[k] = e.from;
-        to[k] = e.to;
-    }
-    Ends { from, to }
 }
 
 // The type of each operation.
@@ -131,23 +108,25 @@ fn busy_of(sheet: Sheet) -> [usize; MOST_TYPES]
     busy
 }
 
-// The pairs that an edge joins are worth a look too.
-fn joined(near: [bool; PAIRS], ends: Ends, count: usize) -> [bool; PAIRS]
-    requires { ⌜ EndsWithin count (ends .from) (ends .to) ⌝ }
+// The pairs that an edge joins are worth a look too. It only guides the search and promises nothing.
+fn joined(near: [bool; PAIRS], graph: Graph) -> [bool; PAIRS]
+    requires { ⌜ dependence.InRange graph ⌝ }
 {
     let mut out = near;
+    let count = graph.edge_count;
     for k in 0..count {
-        let i = ends.from[k];
-        let j = ends.to[k];
+        let e = graph.edges[k];
+        let i = e.from;
+        let j = e.to;
         out[i * MOST_OPERATIONS + j] = true;
         out[j * MOST_OPERATIONS + i] = true;
     }
     out
 }
 
-// The task of a sheet at an interval, with its graph and the lags of that. Left free: `near`, which only guides the
-// search, how far a lag is below the table's (`Clipped`), and entries past the counts, except that past the types the
-// instances are 0 and held for 1 slot.
+// The task of a sheet at an interval, with its graph and the lags of that, none above MOST_LAG. Left free: `near`, which
+// only guides the search, a lag where the table's is below LEAST_LAG, and entries past the counts, except that past the
+// types the instances are 0 and held for 1 slot.
 pub fn task_of(
     sheet: Sheet,
     graph: Graph,
@@ -157,25 +136,16 @@ pub fn task_of(
     requires { ⌜ InRange sheet × Interval sheet interval × (graph ≡ graphOf sheet) ⌝ }
     ensures { λ r. ⌜ TaskFor sheet interval table r ⌝ }
 {
-    let ends = ends_of(graph);
-    let totals = dependence::totals(graph, interval);
     let lags = lags_of(table, interval);
     let close = lags.near;
-    let near = joined(close, ends, sheet.edge_count);
+    let near = joined(close, graph);
     let resource = types_of(sheet);
     let instances = limits_of(sheet);
     let busy = busy_of(sheet);
-    let from = ends.from;
-    let to = ends.to;
-    let total = totals.values;
     let lag = lags.lag;
     Task {
         ops: sheet.op_count,
         interval,
-        edges: sheet.edge_count,
-        from,
-        to,
-        total,
         resource,
         instances,
         busy,

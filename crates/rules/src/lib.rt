@@ -2,8 +2,9 @@
 // asked about. Each rule is decided here alone: an operation's own start in starts.rt, and there what holding an
 // instance asks of it; its own instance in `instance_allowed`; two rivals on one instance in `overlap`.
 ghost use mathlib.Core.Path.{_≡_};
+ghost use lib.ListN.{getD};
 ghost use Rattle.laws.specs.Says.{Says};
-ghost use Rattle.sheet.specs.Sheet.{opAt, typeOf};
+ghost use Rattle.sheet.specs.Sheet.{noType, noOperation, opAt, typeOf};
 ghost use Rattle.plan.specs.Rules.{InstanceAllowed, Rivals, Overlap, slot};
 
 mod starts;
@@ -18,21 +19,33 @@ use sizes::MOST_TYPES;
 pub use starts::allowed_starts;
 pub use starts::holds_allowed;
 
-// An operation with its numbers; past the array they are 0.
-fn operation_of(sheet: Sheet, op: usize) -> Operation
-    ensures { λ r. ⌜ r ≡ opAt sheet op ⌝ }
+// An operation of an array with its numbers; past the array they are 0. It takes the array alone, since a sheet by value
+// is copied.
+fn operation_in(ops: [Operation; MOST_OPERATIONS], op: usize) -> Operation
+    ensures { λ r. ⌜ r ≡ getD ops op noOperation ⌝ }
 {
     if MOST_OPERATIONS <= op {
         return NO_OPERATION;
     }
-    sheet.ops[op]
+    ops[op]
+}
+
+// A type of an array with its numbers; past the array they are 0.
+fn type_in(types: [ResourceType; MOST_TYPES], resource: usize) -> ResourceType
+    ensures { λ r. ⌜ r ≡ getD types resource noType ⌝ }
+{
+    if MOST_TYPES <= resource {
+        return NO_TYPE;
+    }
+    types[resource]
 }
 
 // The type of an operation; past the array it is 0.
 pub fn resource_of(sheet: Sheet, op: usize) -> usize
     ensures { λ r. ⌜ r ≡ opAt sheet op .resource ⌝ }
 {
-    let operation = operation_of(sheet, op);
+    let ops = sheet.ops;
+    let operation = operation_in(ops, op);
     operation.resource
 }
 
@@ -40,11 +53,10 @@ pub fn resource_of(sheet: Sheet, op: usize) -> usize
 fn type_of(sheet: Sheet, op: usize) -> ResourceType
     ensures { λ r. ⌜ r ≡ typeOf sheet op ⌝ }
 {
-    let resource = resource_of(sheet, op);
-    if MOST_TYPES <= resource {
-        return NO_TYPE;
-    }
-    sheet.types[resource]
+    let ops = sheet.ops;
+    let operation = operation_in(ops, op);
+    let types = sheet.types;
+    type_in(types, operation.resource)
 }
 
 // The instances of an operation's type; 0 is unlimited.

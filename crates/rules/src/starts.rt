@@ -3,7 +3,8 @@
 ghost use Rattle.laws.specs.Says.{Says};
 ghost use Rattle.plan.specs.Rules.{MayHold, HoldsAllowed, InHorizon, InWindow, MayStart};
 ghost use Rattle.rules.specs.Starts.{RowFor};
-use crate::operation_of;
+use crate::operation_in;
+use crate::type_in;
 use crate::type_of;
 use sheet::Operation;
 use sheet::ResourceType;
@@ -71,8 +72,10 @@ pub fn allowed_starts(sheet: Sheet, interval: usize, op: usize) -> [bool; MOST_S
     ensures { λ r. ⌜ RowFor sheet interval op r ⌝ }
 {
     let horizon = sheet.horizon;
-    let operation = operation_of(sheet, op);
-    let kind = type_of(sheet, op);
+    let ops = sheet.ops;
+    let operation = operation_in(ops, op);
+    let types = sheet.types;
+    let kind = type_in(types, operation.resource);
     let mut row = [false; MOST_STARTS];
     for t in 0..MOST_STARTS {
         row[t] = may_start(horizon, kind, operation, interval, t);

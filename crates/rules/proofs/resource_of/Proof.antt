@@ -6,11 +6,11 @@ use borrow.Author.Needs.{needs}
 use Rattle.rules.proofs.resource_of.Statement.{statement}
 use Rattle.rules.proofs.resource_of.Tie as tie
 
-operation-of-requires : tie.Need-operation-of-requires
-operation-of-requires c κs = search needs
+operation-in-requires : tie.Need-operation-in-requires
+operation-in-requires c κs = search needs
 
 returns : tie.Need-returns
-returns c = ap (λ (o : Operation). o .resource) (c .operation-of .ensures)
+returns c = ap (λ (o : Operation). o .resource) (c .operation-in .ensures)
 
 pub resource-of-spec : {M : Type 1} → statement M
-resource-of-spec = tie.close (tie.spec operation-of-requires returns)
+resource-of-spec = tie.close (tie.spec operation-in-requires returns)

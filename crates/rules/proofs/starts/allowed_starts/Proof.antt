@@ -1,7 +1,7 @@
 -- `rules::allowed_starts` meets its contract: each start passed has its flag, by the operation's type and by the
 -- operation itself.
 -- Assumes nothing.
-use mathlib.Core.Path.{_≡_, subst}
+use mathlib.Core.Path.{_≡_, subst, ap, _∙_}
 use mathlib.Core.Bool.{Bool, false}
 use Prim.Native.Nat.{ℕ, _≤_, _<_, _-_}
 use native.Mathlib.Omega.{arith}
@@ -12,7 +12,7 @@ use Rattle.laws.specs.Store.{store-more}
 use Rattle.laws.specs.Says.{Says}
 use Rattle.sheet.specs.declared.Operation.{Operation}
 use Rattle.sheet.specs.declared.ResourceType.{ResourceType}
-use Rattle.sheet.specs.Sheet.{opAt}
+use Rattle.sheet.specs.Sheet.{noType, opAt}
 use Rattle.plan.specs.Rules.{MayStart}
 use Rattle.rules.proofs.starts.allowed_starts.Statement.{statement}
 use Rattle.rules.proofs.starts.allowed_starts.Tie as tie
@@ -27,11 +27,11 @@ Inv-loop interval op horizon operation kind row₀ t₀ row t = (t ≤ mostStart
 abbrev μ-loop : tie.MeasureT-loop
 μ-loop interval op horizon operation kind row₀ t₀ row t = mostStarts - t
 
-operation-of-requires : tie.Need-operation-of-requires Inv-loop μ-loop
-operation-of-requires c κs = search needs
+operation-in-requires : tie.Need-operation-in-requires Inv-loop μ-loop
+operation-in-requires c κs = search needs
 
-type-of-requires : tie.Need-type-of-requires Inv-loop μ-loop
-type-of-requires c κs = search needs
+type-in-requires : tie.Need-type-in-requires Inv-loop μ-loop
+type-in-requires c κs = search needs
 
 loop-holds : tie.Need-loop-holds Inv-loop μ-loop
 loop-holds c = (omega arith, search needs, λ k l. absurd (omega arith))
@@ -52,20 +52,22 @@ loop-again : tie.Need-loop-again Inv-loop μ-loop
 loop-again c =
     let l = c .before .before .loop in
     let f = c .before .before .before in
-    let o = f .before in
-    let a = o .before .args in
-    (omega arith, simp length-set (l .inv .1), store-more (Tested (a .sheet .horizon) (f .type-of .result) (o .operation-of .result) (a .interval)) (l .row) (l .t) _ false (omega (arith, l .inv .1)) (c .may-start .ensures) (l .inv .2))
+    let o = f .before .before in
+    let a = o .before .before .args in
+    (omega arith, simp length-set (l .inv .1), store-more (Tested (a .sheet .horizon) (f .type-in .result) (o .operation-in .result) (a .interval)) (l .row) (l .t) _ false (omega (arith, l .inv .1)) (c .may-start .ensures) (l .inv .2))
 
 returns : tie.Need-returns Inv-loop μ-loop
 returns c =
     let l = c .before .loop in
     let f = c .before .before in
-    let a = f .before .before .args in
+    let o = f .before .before in
+    let a = o .before .before .args in
     let H = a .sheet .horizon in
+    let kind = f .type-in .ensures ∙ ap (λ (x : Operation). getD (a .sheet .types) (x .resource) noType) (o .operation-in .ensures) in
     record {
       start = λ k h.
-          subst (λ (x : ResourceType). Tested H x (opAt (a .sheet) (a .op)) (a .interval) k (getD (l .row) k false)) (f .type-of .ensures)
-          (subst (λ (x : Operation). Tested H (f .type-of .result) x (a .interval) k (getD (l .row) k false)) (f .before .operation-of .ensures)
+          subst (λ (x : ResourceType). Tested H x (opAt (a .sheet) (a .op)) (a .interval) k (getD (l .row) k false)) kind
+          (subst (λ (x : Operation). Tested H (f .type-in .result) x (a .interval) k (getD (l .row) k false)) (o .operation-in .ensures)
           (l .inv .2 k (omega arith)));
     }
 
@@ -75,8 +77,8 @@ allowed-starts-spec =
     (tie.spec
     Inv-loop
     μ-loop
-    operation-of-requires
-    type-of-requires
+    operation-in-requires
+    type-in-requires
     loop-holds
     may-start-requires
     array-write-row
