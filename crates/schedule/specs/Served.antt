@@ -1,5 +1,5 @@
 -- From what the parts answer to what the services answer. Assumes nothing.
-use mathlib.Core.Path.{_≡_, refl, subst}
+use mathlib.Core.Path.{_≡_, refl, ap, subst}
 use mathlib.Core.Bool.{Bool, true, false}
 use mathlib.Core.List.{List}
 use Prim.Native.Nat.{ℕ, _+_, _<_, _≤_}
@@ -14,6 +14,9 @@ use Rattle.sheet.specs.Questions.{at-no, at-yes, Accepted}
 use Rattle.sheet.specs.Loop.{Feasible}
 use Rattle.plan.specs.declared.PlanAnswer.{PlanAnswer}
 use Rattle.plan.specs.declared.IntervalAnswer.{IntervalAnswer}
+use Rattle.plan.specs.declared.resource.Bound.{Bound}
+use Rattle.plan.specs.Resource.{resourceBound, ResourceAt}
+use Rattle.plan.specs.ResourceLaws.{bound-below}
 use Rattle.plan.specs.Answers.{refused, planned, HasPlan, IfPlan, PlanAt, LeastGiven, IfInterval}
 use Rattle.plan.specs.Exactly.{decides, accepted-given}
 use Rattle.domain.specs.Domain.{FirstIn}
@@ -31,6 +34,14 @@ pub record FeasibleAt (s : Sheet) (L : ℕ) : Type 0 where
 
 -- ---- question 6
 
+-- below the resource bound there is no plan
+pub below-bound : {s : Sheet} {L : ℕ} {b : Bound} → FeasibleAt s L → ResourceAt s b → L < b .value → {a : PlanAnswer} → a ≡ refused 6 → IfPlan s L a
+below-bound {s} {L} {b} y r l q = at-no (λ h. omega (arith, is r, bound-below s L (h .starts) (h .instances) (y .accepted .sheet) (y .accepted .interval .low) (h .plan))) q
+  where
+    is : ResourceAt s b → b .value ≡ resourceBound s
+    is (at-no n _) = absurd (n (y .accepted .sheet))
+    is (at-yes _ e) = ap (λ (x : Bound). x .value) e
+
 module _ {s : Sheet} {L : ℕ} (y : FeasibleAt s L) where
   -- no bad closed walk: the table holds lags
   pub lags-found : {table : List (List ℤ)} → TableAnswer (graphOf s) L (Lags (graphOf s) L) table → Lags (graphOf s) L table
@@ -38,14 +49,14 @@ module _ {s : Sheet} {L : ℕ} (y : FeasibleAt s L) where
   lags-found (table-bad _ _ _ p b) = absurd (y .feasible p b)
   lags-found (table-found _ _ _ l) = l
 
-  module _ (table : List (List ℤ)) (p : Task) (f : TaskFor s L table p) (dom : List (List Bool)) (d : DomainFor s L dom)
+  module _ (table : List (List ℤ)) (l : Lags (graphOf s) L table) (p : Task) (f : TaskFor s L table p) (dom : List (List Bool)) (d : DomainFor s L dom)
       {found : Bool} {x : List ℕ} (r : FirstIn (PlanOf p) (p .ops) dom found x) where
     pub denied-answer : found ≡ false → {a : PlanAnswer} → a ≡ refused 6 → IfPlan s L a
-    denied-answer e q = at-no (λ h. none-found s L table p (y .accepted .sheet) (y .accepted .interval) f dom d r e (h .starts) (h .instances) (h .plan)) q
+    denied-answer e q = at-no (λ h. none-found s L table p (y .accepted .sheet) (y .accepted .interval) f l dom d r e (h .starts) (h .instances) (h .plan)) q
 
     pub given-answer : found ≡ true → (z u w : List ℕ) → Cut (s .«op_count») x z → SeatsFor p z u → Cut (s .«op_count») u w → IfPlan s L (planned z w)
     given-answer e z u w cz seats cw =
-        let first = first-found s L table p (y .accepted .sheet) (y .accepted .interval) f dom d r e z u w cz seats cw in
+        let first = first-found s L table p (y .accepted .sheet) (y .accepted .interval) f l dom d r e z u w cz seats cw in
         at-yes (record { starts = _; instances = _; plan = first .plan }) (record {
           starts = z;
           instances = w;

@@ -52,7 +52,7 @@ fn first_plan(sheet: Sheet, graph: Graph, interval: usize) -> PlanAnswer
 }
 
 // The plan at an interval that comes before every other, or why there is none: the sheet's refusal, 4, 5 with the first
-// bad closed walk, 6.
+// bad closed walk, 6. Below the resource bound a count tells that there is none.
 pub fn plan_at(sheet: Sheet, interval: usize) -> PlanAnswer
     ensures { λ r. ⌜ PlanAt sheet interval r ⌝ }
 {
@@ -71,6 +71,10 @@ pub fn plan_at(sheet: Sheet, interval: usize) -> PlanAnswer
             loop_length: walk.loop_length,
             loop_edges,
         };
+    }
+    let bound = plan::resource_bound(sheet);
+    if interval < bound.value {
+        return refusal(6);
     }
     first_plan(sheet, graph, interval)
 }

@@ -1,11 +1,11 @@
--- `schedule::first_plan` meets its contract: the task is ready, and what the search and the instances answer is the
--- answer to question 6. Assumes nothing.
+-- `schedule::first_plan` meets its contract: the task is one for the search, and what the search and the instances
+-- answer is the answer to question 6. Assumes nothing.
 use mathlib.Core.Path.{subst}
 use borrow.Author.Needs.{needs}
 use Rattle.dependence.specs.declared.Graph.{Graph}
 use Rattle.dependence.specs.Answer.{TableAnswer, Lags}
 use Rattle.sheet.specs.Sheet.{graphOf}
-use Rattle.model.specs.Ready.{ready, task-ok}
+use Rattle.model.specs.TaskLaws.{instances-few, task-ok}
 use Rattle.schedule.specs.Served.{lags-found, denied-answer, given-answer}
 use Rattle.schedule.proofs.first_plan.Statement.{statement}
 use Rattle.schedule.proofs.first_plan.Tie as tie
@@ -30,7 +30,7 @@ first-plan-requires : tie.Need-first-plan-requires
 first-plan-requires c κs =
     let t = c .before in
     let s = t .before .before in
-    ready (s .args .sheet) (s .args .interval) (t .before .lags .result) (t .task-of .result) (s .pre .0 .accepted .sheet) (s .pre .0 .accepted .interval) (t .task-of .ensures) (lags-are (t .before))
+    task-ok (s .args .sheet) (s .args .interval) (t .before .lags .result) (t .task-of .result) (s .pre .0 .accepted .sheet) (s .pre .0 .accepted .interval) (t .task-of .ensures)
 
 cut-requires : tie.Need-cut-requires
 cut-requires c κs = search needs
@@ -39,8 +39,11 @@ instances-requires : tie.Need-instances-requires
 instances-requires c κs =
     let t = c .before .before .before .before .before .before .before .before in
     let s = t .before .before in
-    let ok = task-ok (s .args .sheet) (s .args .interval) (t .before .lags .result) (t .task-of .result) (s .pre .0 .accepted .sheet) (s .pre .0 .accepted .interval) (t .task-of .ensures) in
-    (ok .ops-ok, ok .instances-ok)
+    let sh = s .pre .0 .accepted .sheet in
+    let iv = s .pre .0 .accepted .interval in (
+      task-ok (s .args .sheet) (s .args .interval) (t .before .lags .result) (t .task-of .result) sh iv (t .task-of .ensures) .ops-ok,
+      λ kind h. instances-few (s .args .sheet) (s .args .interval) (t .before .lags .result) (t .task-of .result) sh iv (t .task-of .ensures) kind,
+    )
 
 cut-requires-2 : tie.Need-cut-requires-2
 cut-requires-2 c κs = search needs
@@ -54,7 +57,7 @@ returns c =
     let d = f .before in
     let t = d .before in
     let s = t .before .before in
-    given-answer (s .pre .0) (t .before .lags .result) (t .task-of .result) (t .task-of .ensures)
+    given-answer (s .pre .0) (t .before .lags .result) (lags-are (t .before)) (t .task-of .result) (t .task-of .ensures)
     (d .allowed-domain .result) (d .allowed-domain .ensures) (f .first-plan .ensures) (i .if1 .taken)
     (y .cut .result) (u .instances .result) (c .cut2 .result) (y .cut .ensures) (u .instances .ensures) (c .cut2 .ensures)
 
@@ -67,7 +70,7 @@ returns-2 c =
     let d = f .before in
     let t = d .before in
     let s = t .before .before in
-    denied-answer (s .pre .0) (t .before .lags .result) (t .task-of .result) (t .task-of .ensures)
+    denied-answer (s .pre .0) (t .before .lags .result) (lags-are (t .before)) (t .task-of .result) (t .task-of .ensures)
     (d .allowed-domain .result) (d .allowed-domain .ensures) (f .first-plan .ensures) (c .before .if1 .left) (c .refusal .ensures)
 
 pub first-plan-spec : {M : Type 1} → statement M
