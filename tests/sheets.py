@@ -121,6 +121,42 @@ def packed(rng, k, interval):
     return starts
 
 
+def tiled_sheet(rng):
+    """Rigid pairs or triples that fill every slot of every instance at the cap if they find room, in a horizon that has
+    a start in each slot for each of them; now and then one of them may be longer. Of those that find no room most are
+    denied by the sum of the slots modulo 2 or 3. Enumeration takes up to some seconds."""
+    size, instances, interval = rng.choice([(2, 1, 10), (2, 2, 6), (2, 3, 4), (3, 2, 6)])
+    count, late = instances * interval, rng.choice([0, 1])
+    parts = [(0, *sorted(rng.sample(range(1, interval), size - 1))) for _ in range(count // size)]
+    edges = list(rigid_edges(parts, late))
+    if rng.random() < 0.3:
+        edges.pop(rng.randrange(len(edges)))
+    return plain_sheet(interval + max(p[-1] for p in parts), interval, [(instances, late)], [0] * count, edges)
+
+
+def rigid_edges(parts, late):
+    """Two edges between each operation of a part and the next, which fix the distance."""
+    i = 0
+    for part in parts:
+        for apart in (b - a for a, b in zip(part, part[1:])):
+            yield i, i + 1, apart - late, 0
+            yield i + 1, i, -apart - late, 0
+            i += 1
+        i += 1
+
+
+def held_sheet(rng):
+    """Rivals that edges hold within two or three clocks, most often one more than the instances take there, and after
+    them four operations of no limited type with windows of a few clocks, which a search would try first."""
+    instances, clocks, interval = rng.randint(1, 2), rng.randint(2, 3), rng.randint(7, 9)
+    count = min(6, instances * clocks + rng.choice([0, 1, 1, 1]))
+    edges = [(i, j, 1 - clocks, 0) for i in range(count) for j in range(count) if i != j]
+    sheet = plain_sheet(interval + 3, interval, [(instances, 0), (0, 1)], [0] * count + [1] * 4, edges)
+    first = [rng.randrange(interval - 3) for _ in range(4)]
+    windows = [(0, sheet.horizon - 1)] * count + [(t, t + rng.randint(1, 3)) for t in first]
+    return with_windows(sheet, windows)
+
+
 SMALL = [small_sheet, late_sheet, narrow_sheet, windowed_sheet, busy_sheet, crowded_sheet, seated_sheet]
 
 

@@ -435,6 +435,7 @@ def plan_pieces():
     pieces += list(busy_units()) + list(counts_not_enough()) + list(refused_busy())
     pieces += texts(sheets.busy_sheet, 19, 300) + texts(sheets.crowded_sheet, 20, 200)
     pieces += texts(sheets.seated_sheet, 27, 150)
+    pieces += texts(sheets.held_sheet, 40, 40) + texts(sheets.tiled_sheet, 62, 10)
     return list(dict.fromkeys(pieces))
 
 
