@@ -17,8 +17,12 @@ busy_tight   the same with a horizon that takes the chains of edges, or an inter
              an interval more
 busy_blocks  as many operations of a busy type as its instances hold at some interval, A times L / K rounded down,
              most of them in blocks of two or more that keep the distances they have in one plan there
+rings        )
+rivals       ) without a plan for a reason that a search by starts is slow to see: bench/impossible.py
+tilings      )
 
-In every family but windows an operation may start in the whole horizon, and but in those of busy units K is 1.
+In every family but windows, rings and rivals an operation may start in the whole horizon, and but in those of busy
+units K is 1.
 
 As a program:  loops.py FAMILY SEED   prints one sheet.
 """
@@ -29,6 +33,7 @@ import sys
 
 sys.path.insert(0, os.path.join(os.path.dirname(os.path.abspath(__file__)), "..", "tests"))
 
+from impossible import rings, rivals, tilings
 from reference import kind, latency, plain_sheet, resource_bound, sheet_text, with_busy, with_horizon, with_windows
 
 OPERATIONS = 24
@@ -297,7 +302,9 @@ def busy_blocks(rng):
 
 PLAIN = (layered, dense, motor, deadlines, packing, recurrences, windows)
 BUSY = (busy, busy_tight, busy_blocks)
-FAMILIES = {f.__name__: f for f in PLAIN + BUSY}
+IMPOSSIBLE = (rings, rivals, tilings)
+SEARCHED = [f.__name__ for f in PLAIN + BUSY]  # a plain search answers these in time
+FAMILIES = {f.__name__: f for f in PLAIN + BUSY + IMPOSSIBLE}
 
 
 def sheet_of(family, seed):

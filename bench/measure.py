@@ -18,22 +18,24 @@ NO_INTERVAL = 4
 RUNS = 5
 
 
-def times_program():
-    """bench/times.c over the archive. Not position independent, so that gdb finds the functions before it runs."""
+def times_program(archive=None, name="times"):
+    """bench/times.c over an archive, the project's own where none is given. Not position independent, so that gdb finds
+    the functions before it runs."""
     os.makedirs(BUILT, exist_ok=True)
-    out = os.path.join(BUILT, "times")
+    out = os.path.join(BUILT, name)
     include = os.path.join(product.ROOT, "include")
-    words = ["gcc", "-O2", "-no-pie", "-I", include, "-o", out, os.path.join(HERE, "times.c"), product.archive()]
+    source = os.path.join(HERE, "times.c")
+    words = ["gcc", "-O2", "-no-pie", "-I", include, "-o", out, source, archive or product.archive()]
     subprocess.run(words, check=True)
     return out
 
 
-def rows_of(program, texts, extra=()):
+def rows_of(program, texts, extra=(), words=()):
     """For each sheet its rows (interval, answer, seconds, what the program says besides), for intervals up to the cap.
 
-    extra: a number for each line that the program prints, appended to its row.
+    extra: a number for each line that the program prints, appended to its row. words: for the program.
     """
-    done = subprocess.run([program], input=framed(texts), stdout=subprocess.PIPE, check=True)
+    done = subprocess.run([program, *words], input=framed(texts), stdout=subprocess.PIPE, check=True)
     rows = [[] for _ in texts]
     for k, line in enumerate(done.stdout.decode().splitlines()):
         sheet, interval, answer, nanoseconds, *more = line.split()
@@ -72,12 +74,16 @@ def percentile(values, share):
     return ordered[min(len(ordered) - 1, int(share * len(ordered)))]
 
 
+def in_milliseconds(seconds):
+    """Three digits, or a whole number."""
+    return "%.3g" % (1000 * seconds) if seconds < 0.9995 else "%.0f" % (1000 * seconds)
+
+
 def milliseconds(values):
     """Median, 95 % and greatest of some seconds."""
     if not values:
         return "-"
-    three = statistics.median(values), percentile(values, 0.95), max(values)
-    return " / ".join("%.3g" % (1000 * v) for v in three)
+    return " / ".join(map(in_milliseconds, (statistics.median(values), percentile(values, 0.95), max(values))))
 
 
 def counted(values):
