@@ -3,8 +3,8 @@
 
    Each call takes the bytes of a loop sheet and their count; a null pointer with count 0 is an empty sheet (2).
    Each returns an answer and one number, which is 0 with every answer but 0. Nothing is kept between calls.
-   The buffer must not overlap the sheet, the starts or the instances. Calls take stack: about 0.5 MB was the most
-   measured, 0.9 MB is the most by the shape of the code (docs/PERFORMANCE.md); a thread with less may overflow its
+   The buffer must not overlap the sheet, the starts or the instances. Calls take stack: about 0.4 MB was the most
+   measured, 0.7 MB is the most by the shape of the code (docs/PERFORMANCE.md); a thread with less may overflow its
    stack.
 
    Answers of every call, put in this order:
