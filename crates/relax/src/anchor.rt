@@ -37,7 +37,7 @@ fn close(same: bool, there: i32, back: i32) -> bool
     REACH_BACK <= back
 }
 
-// The operations within REACH of operation i in every plan, as far as the lags tell.
+// The operations within REACH of operation i in every plan, as far as the lags tell. Left free: which of them it names.
 pub fn cluster(p: Task, i: usize) -> [bool; MOST_OPERATIONS]
     requires { ⌜ TaskOk p × (i < p .ops) ⌝ }
     ensures { λ c. ⌜ Cluster p i c ⌝ }
@@ -134,7 +134,7 @@ fn inner_near(c: [bool; MOST_OPERATIONS], near: [bool; PAIRS], i: usize) -> [boo
     out
 }
 
-// The task of the cluster c of operation i alone. Left free: `near`, which is a hint.
+// The task of the cluster c of operation i alone. Left free: `near`, which is a hint, and how much less it asks.
 pub fn anchored(p: Task, i: usize, c: [bool; MOST_OPERATIONS]) -> Task
     requires { ⌜ TaskOk p × (i < p .ops) × Cluster p i c ⌝ }
     ensures { λ q. ⌜ Anchored p i c q ⌝ }
@@ -165,7 +165,7 @@ fn anchor_row(inside: bool, anchor: bool) -> Row
     domain::only(0)
 }
 
-// The first domain for the task of the cluster c of operation i.
+// The first domain for the task of the cluster c of operation i. Left free: what other starts a row has.
 pub fn anchor_rows(i: usize, c: [bool; MOST_OPERATIONS]) -> Domain
     ensures { λ d. ⌜ AnchorRows i c d ⌝ }
 {

@@ -51,7 +51,8 @@ fn limits(p: Task, slots: usize) -> [usize; MOST_TYPES]
     out
 }
 
-// The task at the interval m, which divides its own: each slot stands for as many as m goes into the interval.
+// The task at the interval m, which divides its own: each slot stands for as many as m goes into the interval. Left
+// free: how much less it asks.
 pub fn coarse(p: Task, m: usize) -> Task
     requires { ⌜ TaskOk p × (0 < m) × (p .interval % m ≡ 0) ⌝ }
     ensures { λ q. ⌜ Relaxed p q ⌝ }
