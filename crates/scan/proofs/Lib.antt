@@ -1,3 +1,4 @@
 mod Digits
 mod Signs
 mod Fields
+mod Lists

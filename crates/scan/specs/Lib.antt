@@ -2,6 +2,7 @@
 pub mod Number
 pub mod Line
 pub mod Plain
+pub mod List
 -- ---- laws
 pub mod Bytes
 pub mod Digits
@@ -9,3 +10,4 @@ pub mod RoundTrip
 pub mod Values
 pub mod OneLine
 pub mod PlainLaws
+pub mod ListLaws

@@ -38,12 +38,12 @@ Writable minus i (v ∷ vs) = (natAbs v ≤ fourDigits) × MayStand (eqb i minus
 
 -- ---- a key
 
-strips : (key rest : List ℕ) → stripped key (key ++ rest) ≡ after rest
+pub strips : (key rest : List ℕ) → stripped key (key ++ rest) ≡ after rest
 unfolding stripped
 strips [] rest = refl
 strips (c ∷ cs) rest = rw (eq-eqb c c refl) (strips cs rest)
 
-strip-text : (key bs rest : List ℕ) → stripped key bs ≡ after rest → bs ≡ key ++ rest
+pub strip-text : (key bs rest : List ℕ) → stripped key bs ≡ after rest → bs ≡ key ++ rest
 unfolding stripped
 strip-text [] bs rest e = cc
 strip-text (c ∷ cs) [] rest e = let z : _≡_ {A = ℕ} 0 1 = cc in absurd (omega arith)
@@ -151,7 +151,7 @@ whole-text true (b ∷ bs) v rest e =
 
 -- ---- a number and the byte that ends it
 
-end-no-digit : (k : ℕ) (d : ℕ) → classOf (endOf k) ≡ Digit d → ⊥
+pub end-no-digit : (k : ℕ) (d : ℕ) → classOf (endOf k) ≡ Digit d → ⊥
 unfolding classOf
 end-no-digit zero d e = let z : _≡_ {A = ℕ} 0 1 = cc in omega arith
 end-no-digit (suc k) d e = let z : _≡_ {A = ℕ} 0 1 = cc in omega arith

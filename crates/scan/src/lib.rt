@@ -10,6 +10,12 @@ ghost use Rattle.scan.specs.Plain.{plainLine, seenPlain, PlainFits};
 ghost use Rattle.text.specs.Sizes.{fourDigits};
 ghost use Rattle.text.specs.Text.{endOf};
 
+mod list; // list.rt: a line with any count of numbers up to a given one
+
+pub use list::Items;
+pub use list::MOST_ITEMS;
+pub use list::read_list;
+
 // The most numbers that a line may have.
 const MOST_NUMBERS: usize = 8;
 

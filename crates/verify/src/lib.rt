@@ -1,16 +1,20 @@
 // Whether starts and instances that somebody hands in are a plan: each rule of `plan/specs/Rules` by a test of its own.
-// `is_plan` puts the questions about the sheet and the interval first. `holds` is for services that have put them: it
-// asks for a sheet in range and an interval up to the cap. Caller today: `is_plan`, once `sheet::asked` has answered 0.
+// `is_plan` puts the questions about the sheet and the interval first. `holds`, and `first_broken`, which names the
+// first operation that breaks a rule, are for services that have put them: both ask for a sheet in range and an
+// interval up to the cap. Callers today: of `holds` `is_plan`, of `first_broken` `judge::judge` and its line at fault,
+// each once `sheet::asked` has answered 0.
 ghost use Rattle.laws.specs.Entry.{vec};
 ghost use Rattle.laws.specs.Says.{Says};
 ghost use Rattle.sheet.specs.Sheet.{InRange, Interval};
 ghost use Rattle.plan.specs.Rules.{Plan};
 ghost use Rattle.verify.specs.Check.{CheckedAt};
 
+mod broken; // broken.rt: the rules among the first operations
 mod edges;
 mod operations;
 mod pairs;
 
+pub use broken::first_broken;
 use sheet::Sheet;
 use sizes::MOST_OPERATIONS;
 
@@ -31,16 +35,7 @@ pub fn holds(
     requires { ⌜ InRange sheet × Interval sheet interval ⌝ }
     ensures { λ r. ⌜ Says (Plan sheet interval (vec starts) (vec instances)) r ⌝ }
 {
-    if !operations::starts_allowed(sheet, interval, starts) {
-        return false;
-    }
-    if !operations::instances_allowed(sheet, instances) {
-        return false;
-    }
-    if !edges::all_met(sheet::graph_of(sheet), interval, starts) {
-        return false;
-    }
-    pairs::all_apart(sheet, interval, starts, instances)
+    broken::kept_up_to(sheet, interval, starts, instances, sheet.op_count)
 }
 
 // The same, after the questions about the sheet and question 4.

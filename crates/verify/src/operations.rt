@@ -1,4 +1,6 @@
 // The rules about one operation: its start and its instance.
+ghost use Prim.Native.Nat.{_≤_};
+ghost use Rattle.sizes.specs.Sizes.{mostOperations};
 ghost use Rattle.laws.specs.Entry.{vec};
 ghost use Rattle.laws.specs.Says.{Says};
 ghost use Rattle.sheet.specs.Sheet.{InRange};
@@ -20,12 +22,16 @@ fn start_allowed(sheet: Sheet, interval: usize, op: usize, t: usize) -> bool
     row[t]
 }
 
-// Whether each operation may have its start.
-pub fn starts_allowed(sheet: Sheet, interval: usize, starts: [usize; MOST_OPERATIONS]) -> bool
-    requires { ⌜ InRange sheet ⌝ }
-    ensures { λ r. ⌜ Says (EachStart sheet interval (vec starts)) r ⌝ }
+// Whether each of the first n operations may have its start.
+pub fn starts_allowed(
+    sheet: Sheet,
+    interval: usize,
+    starts: [usize; MOST_OPERATIONS],
+    n: usize,
+) -> bool
+    requires { ⌜ InRange sheet × (n ≤ mostOperations) ⌝ }
+    ensures { λ r. ⌜ Says (EachStart sheet interval (vec starts) n) r ⌝ }
 {
-    let n = sheet.op_count;
     for i in 0..n {
         if !start_allowed(sheet, interval, i, starts[i]) {
             return false;
@@ -34,12 +40,11 @@ pub fn starts_allowed(sheet: Sheet, interval: usize, starts: [usize; MOST_OPERAT
     true
 }
 
-// Whether each operation may have its instance.
-pub fn instances_allowed(sheet: Sheet, instances: [usize; MOST_OPERATIONS]) -> bool
-    requires { ⌜ InRange sheet ⌝ }
-    ensures { λ r. ⌜ Says (EachInstance sheet (vec instances)) r ⌝ }
+// Whether each of the first n operations may have its instance.
+pub fn instances_allowed(sheet: Sheet, instances: [usize; MOST_OPERATIONS], n: usize) -> bool
+    requires { ⌜ n ≤ mostOperations ⌝ }
+    ensures { λ r. ⌜ Says (EachInstance sheet (vec instances) n) r ⌝ }
 {
-    let n = sheet.op_count;
     for i in 0..n {
         if !rules::instance_allowed(sheet, i, instances[i]) {
             return false;

@@ -1,9 +1,8 @@
 // The rule about two operations: rivals with the same instance do not overlap.
-ghost use Prim.Native.Nat.{_<_};
+ghost use Prim.Native.Nat.{_≤_, _<_};
 ghost use Rattle.sizes.specs.Sizes.{mostOperations};
 ghost use Rattle.laws.specs.Entry.{vec};
 ghost use Rattle.laws.specs.Says.{Says};
-ghost use Rattle.sheet.specs.Sheet.{InRange};
 ghost use Rattle.verify.specs.Parts.{Clash, ApartBefore, AllApart};
 use sheet::Sheet;
 use sizes::MOST_OPERATIONS;
@@ -48,17 +47,17 @@ fn apart(
     true
 }
 
-// Whether no two operations clash.
+// Whether no two of the first n operations clash.
 pub fn all_apart(
     sheet: Sheet,
     interval: usize,
     starts: [usize; MOST_OPERATIONS],
     instances: [usize; MOST_OPERATIONS],
+    n: usize,
 ) -> bool
-    requires { ⌜ InRange sheet ⌝ }
-    ensures { λ r. ⌜ Says (AllApart sheet interval (vec starts) (vec instances)) r ⌝ }
+    requires { ⌜ n ≤ mostOperations ⌝ }
+    ensures { λ r. ⌜ Says (AllApart sheet interval (vec starts) (vec instances) n) r ⌝ }
 {
-    let n = sheet.op_count;
     for i in 0..n {
         if !apart(sheet, interval, starts, instances, i) {
             return false;

@@ -19,10 +19,11 @@ use Rattle.verify.proofs.edges.all_met.Statement.{statement}
 use Rattle.verify.proofs.edges.all_met.Tie as tie
 
 abbrev Inv-loop : tie.InvT-loop
-Inv-loop graph interval starts total n k₀ k = (k ≤ n) × ((x : ℕ) → x < k → EdgeMet graph (graphs.total graph interval x) (vec starts) x)
+Inv-loop graph interval starts n total count k₀ k =
+    (k ≤ count) × ((x : ℕ) → x < k → EdgeMet graph (graphs.total graph interval x) (vec starts) n x)
 
 abbrev μ-loop : tie.MeasureT-loop
-μ-loop graph interval starts total n k₀ k = n - k
+μ-loop graph interval starts n total count k₀ k = count - k
 
 -- what is read is the edge's total
 total-read : (c : tie.After-edge-met-arg Inv-loop μ-loop) →
@@ -37,10 +38,14 @@ total-read c =
 tested : (c : tie.After-edge-met Inv-loop μ-loop) →
     let s = c .before .before .before .before .before .before in
     let k = c .before .before .before .loop .k in
-    Says (EdgeMet (s .args .graph) (graphs.total (s .args .graph) (s .args .interval) k) (vec (s .args .starts)) k) (c .edge-met .result)
+    let z = graphs.total (s .args .graph) (s .args .interval) k in
+    Says (EdgeMet (s .args .graph) z (vec (s .args .starts)) (s .args .n) k) (c .edge-met .result)
 tested c =
     let s = c .before .before .before .before .before .before in
-    subst (λ (z : ℤ). Says (EdgeMet (s .args .graph) z (vec (s .args .starts)) (c .before .before .before .loop .k)) (c .edge-met .result)) (total-read (c .before)) (c .edge-met .ensures)
+    let k = c .before .before .before .loop .k in
+    subst
+    (λ (z : ℤ). Says (EdgeMet (s .args .graph) z (vec (s .args .starts)) (s .args .n) k) (c .edge-met .result))
+    (total-read (c .before)) (c .edge-met .ensures)
 
 totals-requires : tie.Need-totals-requires Inv-loop μ-loop
 totals-requires c κs = search needs
@@ -61,7 +66,7 @@ edge-met-requires c κs =
     (p .0, p .2, h, subst SmallTotal (sym (total-read c)) (total-small (p .0) (p .1) h))
 
 returns : tie.Need-returns Inv-loop μ-loop
-returns c = stops (tested (c .before)) (λ all. all .met (c .before .before .before .before .loop .k) (c .before .before .before .loop-test .taken)) (c .if1 .taken)
+returns c = stops (tested (c .before)) (λ all. all (c .before .before .before .before .loop .k) (c .before .before .before .loop-test .taken)) (c .if1 .taken)
 
 add-k : tie.Need-add-k Inv-loop μ-loop
 add-k c = search needs
@@ -76,7 +81,7 @@ loop-again c = (
 )
 
 returns-2 : tie.Need-returns-2 Inv-loop μ-loop
-returns-2 c = yes-says (record { met = λ x h. c .before .loop .inv .1 x (omega (arith, c .loop-test .left)) })
+returns-2 c = yes-says (λ x h. c .before .loop .inv .1 x (omega (arith, c .loop-test .left)))
 
 pub all-met-spec : {M : Type 1} → statement M
 all-met-spec =

@@ -7,25 +7,24 @@ use borrow.Author.Count.{below-more}
 use Rattle.laws.specs.Says.{yes-says}
 use Rattle.laws.specs.Entry.{vec}
 use Rattle.laws.specs.Tests.{stops, passed}
-use Rattle.sheet.specs.Facts.{ops-most}
 use Rattle.plan.specs.Rules.{InstanceAllowed}
 use Rattle.verify.proofs.operations.instances_allowed.Statement.{statement}
 use Rattle.verify.proofs.operations.instances_allowed.Tie as tie
 
 abbrev Inv-loop : tie.InvT-loop
-Inv-loop sheet instances n i₀ i = (i ≤ n) × ((x : ℕ) → x < i → InstanceAllowed sheet x (vec instances x))
+Inv-loop sheet n instances i₀ i = (i ≤ n) × ((x : ℕ) → x < i → InstanceAllowed sheet x (vec instances x))
 
 abbrev μ-loop : tie.MeasureT-loop
-μ-loop sheet instances n i₀ i = n - i
+μ-loop sheet n instances i₀ i = n - i
 
 loop-holds : tie.Need-loop-holds Inv-loop μ-loop
 loop-holds c = (omega arith, λ x h. absurd (omega arith))
 
 mul-instance-allowed : tie.Need-mul-instance-allowed Inv-loop μ-loop
-mul-instance-allowed c = omega (arith, ops-most (c .before .before .pre))
+mul-instance-allowed c = omega (arith, c .before .before .pre)
 
 array-read-instance-allowed : tie.Need-array-read-instance-allowed Inv-loop μ-loop
-array-read-instance-allowed c = omega (arith, ops-most (c .before .before .pre))
+array-read-instance-allowed c = omega (arith, c .before .before .pre)
 
 instance-allowed-requires : tie.Need-instance-allowed-requires Inv-loop μ-loop
 instance-allowed-requires c κs = search needs
@@ -34,7 +33,7 @@ returns : tie.Need-returns Inv-loop μ-loop
 returns c = stops (c .before .instance-allowed .ensures) (λ all. all (c .before .before .before .loop .i) (c .before .before .loop-test .taken)) (c .if1 .taken)
 
 add-i : tie.Need-add-i Inv-loop μ-loop
-add-i c = omega (arith, ops-most (c .before .before .before .before .pre))
+add-i c = omega (arith, c .before .before .before .before .pre)
 
 loop-less : tie.Need-loop-less Inv-loop μ-loop
 loop-less c = omega arith

@@ -7,25 +7,24 @@ use borrow.Author.Count.{below-more}
 use Rattle.laws.specs.Says.{yes-says}
 use Rattle.laws.specs.Entry.{vec}
 use Rattle.laws.specs.Tests.{stops, passed}
-use Rattle.sheet.specs.Facts.{ops-most}
 use Rattle.plan.specs.Rules.{StartAllowed}
 use Rattle.verify.proofs.operations.starts_allowed.Statement.{statement}
 use Rattle.verify.proofs.operations.starts_allowed.Tie as tie
 
 abbrev Inv-loop : tie.InvT-loop
-Inv-loop sheet interval starts n i₀ i = (i ≤ n) × ((x : ℕ) → x < i → StartAllowed sheet interval x (vec starts x))
+Inv-loop sheet interval n starts i₀ i = (i ≤ n) × ((x : ℕ) → x < i → StartAllowed sheet interval x (vec starts x))
 
 abbrev μ-loop : tie.MeasureT-loop
-μ-loop sheet interval starts n i₀ i = n - i
+μ-loop sheet interval n starts i₀ i = n - i
 
 loop-holds : tie.Need-loop-holds Inv-loop μ-loop
 loop-holds c = (omega arith, λ x h. absurd (omega arith))
 
 mul-start-allowed : tie.Need-mul-start-allowed Inv-loop μ-loop
-mul-start-allowed c = omega (arith, ops-most (c .before .before .pre))
+mul-start-allowed c = omega (arith, c .before .before .pre .1)
 
 array-read-start-allowed : tie.Need-array-read-start-allowed Inv-loop μ-loop
-array-read-start-allowed c = omega (arith, ops-most (c .before .before .pre))
+array-read-start-allowed c = omega (arith, c .before .before .pre .1)
 
 start-allowed-requires : tie.Need-start-allowed-requires Inv-loop μ-loop
 start-allowed-requires c κs = search needs
@@ -34,7 +33,7 @@ returns : tie.Need-returns Inv-loop μ-loop
 returns c = stops (c .before .start-allowed .ensures) (λ all. all (c .before .before .before .loop .i) (c .before .before .loop-test .taken)) (c .if1 .taken)
 
 add-i : tie.Need-add-i Inv-loop μ-loop
-add-i c = omega (arith, ops-most (c .before .before .before .before .pre))
+add-i c = omega (arith, c .before .before .before .before .pre .1)
 
 loop-less : tie.Need-loop-less Inv-loop μ-loop
 loop-less c = omega arith

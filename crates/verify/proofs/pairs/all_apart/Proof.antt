@@ -6,7 +6,6 @@ use borrow.Author.Count.{below-more}
 use Rattle.laws.specs.Says.{yes-says}
 use Rattle.laws.specs.Entry.{vec}
 use Rattle.laws.specs.Tests.{stops, passed}
-use Rattle.sheet.specs.Facts.{ops-most}
 use Rattle.verify.specs.Parts.{ApartBefore}
 use Rattle.verify.proofs.pairs.all_apart.Statement.{statement}
 use Rattle.verify.proofs.pairs.all_apart.Tie as tie
@@ -21,13 +20,13 @@ loop-holds : tie.Need-loop-holds Inv-loop μ-loop
 loop-holds c = (omega arith, λ x h. absurd (omega arith))
 
 apart-requires : tie.Need-apart-requires Inv-loop μ-loop
-apart-requires c κs = omega (arith, ops-most (c .before .before .pre))
+apart-requires c κs = omega (arith, c .before .before .pre)
 
 returns : tie.Need-returns Inv-loop μ-loop
 returns c = stops (c .before .apart .ensures) (λ all. all (c .before .before .before .loop .i) (c .before .before .loop-test .taken)) (c .if1 .taken)
 
 add-i : tie.Need-add-i Inv-loop μ-loop
-add-i c = omega (arith, ops-most (c .before .before .before .before .pre))
+add-i c = omega (arith, c .before .before .before .before .pre)
 
 loop-less : tie.Need-loop-less Inv-loop μ-loop
 loop-less c = omega arith
