@@ -6,5 +6,4 @@ pub mod Shows
 pub mod Printable
 pub mod Answers
 pub mod Pages
-pub mod OwnPlan
 pub mod Unique

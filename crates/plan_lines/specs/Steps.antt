@@ -8,7 +8,7 @@ use native.Mathlib.Numerals.{add-one}
 use native.Mathlib.Omega.{arith}
 use lib.IntN.{pos}
 use lib.ListN.{length, take, drop, set, length-drop, length-set, length-replicate, drop-of-length-le}
-use lib.Seq.{take-suc-set, getD-set-other}
+use lib.Seq.{take-suc-set, getD-set-other, length-take-le}
 use borrow.Author.Tests.{eq-eqb, ne-eqb, not-true, not-false}
 use Rattle.sizes.specs.Sizes.{mostOperations}
 use Rattle.laws.specs.Entry.{zeros, ZeroFrom}
@@ -19,9 +19,10 @@ use Rattle.scan.specs.declared.PlainLine.{PlainLine}
 use Rattle.scan.specs.Line.{fields, bad, noMinus, lineOf}
 use Rattle.scan.specs.PlainLaws.{PlainAt, is-line, is-bad}
 use Rattle.plan_lines.specs.declared.PlanLines.{PlanLines}
-use Rattle.plan_lines.specs.Lines.{PlanRead, given, malformed, placesFrom, planOf, seen, noLines, LinesFit}
+use Rattle.plan_lines.specs.Lines.{PlanRead, given, malformed, firstAt, placesFrom, planOf}
+use Rattle.plan_lines.specs.Lines.{seen, noLines, LinesFit}
 
-pub no-plan : {L : ℕ} {ts us : List ℕ} → given L ts us ≡ malformed → ⊥
+pub no-plan : {L : ℕ} {ts us : List ℕ} {n : ℕ} → given L ts us ≡ malformed n → ⊥
 no-plan e = let z : _≡_ {A = ℕ} 0 1 = cc in omega arith
 
 -- ---- the lines `at=t,u`
@@ -32,13 +33,13 @@ module _ (L : ℕ) (ts us : List ℕ) where
   places-end zero = refl
   places-end (suc k) = refl
 
-  pub places-over : (bs : List ℕ) → 0 < length bs → placesFrom 0 L ts us bs ≡ malformed
+  pub places-over : (bs : List ℕ) → 0 < length bs → placesFrom 0 L ts us bs ≡ malformed (firstAt + length ts)
   unfolding placesFrom
   places-over [] h = absurd (omega arith)
   places-over (b ∷ bs) h = refl
 
   pub places-bad : (k : ℕ) (bs : List ℕ) → 0 < length bs → lineOf atKey 2 noMinus bs ≡ bad
-      → placesFrom (suc k) L ts us bs ≡ malformed
+      → placesFrom (suc k) L ts us bs ≡ malformed (firstAt + length ts)
   unfolding placesFrom
   places-bad k [] h e = absurd (omega arith)
   places-bad k (b ∷ bs) h e = rw e
@@ -53,17 +54,17 @@ module _ (L : ℕ) (ts us : List ℕ) where
 -- ---- the whole
 
 module _ (bs : List ℕ) where
-  pub no-answer : lineOf answerKey 1 noMinus bs ≡ bad → planOf bs ≡ malformed
+  pub no-answer : lineOf answerKey 1 noMinus bs ≡ bad → planOf bs ≡ malformed 1
   unfolding planOf
   no-answer e = rw e
 
   module _ (a : ℕ) (b₁ : List ℕ) (e₁ : lineOf answerKey 1 noMinus bs ≡ fields (pos a ∷ []) b₁) where
-    pub another-answer : (a ≡ 0 → ⊥) → planOf bs ≡ malformed
+    pub another-answer : (a ≡ 0 → ⊥) → planOf bs ≡ malformed 1
     unfolding planOf
     another-answer n = rw (e₁, ne-eqb a 0 n)
 
     module _ (z : a ≡ 0) where
-      pub no-interval : lineOf intervalKey 1 noMinus b₁ ≡ bad → planOf bs ≡ malformed
+      pub no-interval : lineOf intervalKey 1 noMinus b₁ ≡ bad → planOf bs ≡ malformed 2
       unfolding planOf
       no-interval e = rw (e₁, eq-eqb a 0 z, e)
 
@@ -81,13 +82,19 @@ Gives want r = (seen r ≡ want) × LinesFit r
 no-entries : ZeroFrom 0 zeros
 no-entries = record { whole = length-replicate {A = ℕ} mostOperations 0; rest = λ i _. all-zero mostOperations i }
 
-none-fit : LinesFit noLines
-none-fit = record { few = omega arith; starts = no-entries; instances = no-entries; refused = λ _. refl }
+none-fit : (n : ℕ) → LinesFit (noLines n)
+none-fit n = record {
+  few = omega arith;
+  starts = no-entries;
+  instances = no-entries;
+  faultless = λ e. true-false (sym e);
+  refused = λ _. refl;
+}
 
 -- bytes that are no such lines
-pub none : {want : PlanRead} {r : PlanLines} → r ≡ noLines → want ≡ malformed → Gives want r
+pub none : {want : PlanRead} {r : PlanLines} (n : ℕ) → r ≡ noLines n → want ≡ malformed n → Gives want r
 unfolding seen
-none e w = (ap seen e ∙ sym w, subst LinesFit (sym e) none-fit)
+none n e w = (ap seen e ∙ sym w, subst LinesFit (sym e) (none-fit n))
 
 -- ---- the loop
 
@@ -121,22 +128,27 @@ module _ {s : List ℕ} {L : ℕ} {want : PlanRead} {ts us : List ℕ} {p i : �
     some : 0 < length (drop p s)
     some = omega (arith, length-drop p s)
 
+    -- the number of this line
+    here : malformed (firstAt + length (take i ts)) ≡ malformed (firstAt + i)
+    here = ap (λ (n : ℕ). malformed (firstAt + n)) (length-take-le i ts (omega (arith, t .few, t .starts .whole)))
+
     -- a line past the most
-    pub over : {r : PlanLines} → mostOperations ≤ i → r ≡ noLines → Gives want r
+    pub over : {r : PlanLines} → mostOperations ≤ i → r ≡ noLines (firstAt + i) → Gives want r
     over m e =
         let q : mostOperations - i ≡ 0 = omega arith in
-        let z : ahead s L ts us p i ≡ malformed = rw q (places-over L (take i ts) (take i us) (drop p s) some) in
-        none e (sym (t .same) ∙ z)
+        let z : ahead s L ts us p i ≡ malformed (firstAt + length (take i ts)) =
+        rw q (places-over L (take i ts) (take i us) (drop p s) some) in
+        none (firstAt + i) e (sym (t .same) ∙ z ∙ here)
 
     module _ (m : i < mostOperations) (n : PlainLine) (e : PlainAt s p atKey 2 n) where
       left : mostOperations - i ≡ suc (mostOperations - (i + 1))
       left = omega arith
 
-      pub stops : {r : PlanLines} → not (n .ok) ≡ true → r ≡ noLines → Gives want r
+      pub stops : {r : PlanLines} → not (n .ok) ≡ true → r ≡ noLines (firstAt + i) → Gives want r
       stops f q =
-          let z : ahead s L ts us p i ≡ malformed =
+          let z : ahead s L ts us p i ≡ malformed (firstAt + length (take i ts)) =
           rw left (places-bad L (take i ts) (take i us) _ (drop p s) some (is-bad s p atKey 2 n e (not-true (n .ok) f))) in
-          none q (sym (t .same) ∙ z)
+          none (firstAt + i) q (sym (t .same) ∙ z ∙ here)
 
       pub turn : not (n .ok) ≡ false → Turn s L want (set ts i (n .first)) (set us i (n .second)) (n .next) (i + 1)
       turn f =
@@ -152,9 +164,18 @@ module _ {s : List ℕ} {L : ℕ} {want : PlanRead} {ts us : List ℕ} {p i : �
           }
 
   -- the bytes end
-  pub done : length s ≤ p → Gives want (record { ok = true; interval = L; count = i; starts = ts; instances = us })
+  pub done : length s ≤ p
+      → Gives want (record { ok = true; fault = 0; interval = L; count = i; starts = ts; instances = us })
   unfolding seen
   done h =
       let z : ahead s L ts us p i ≡ given L (take i ts) (take i us) =
-      rw (drop-of-length-le s h) (places-end L (take i ts) (take i us) (mostOperations - i)) in
-      (sym z ∙ t .same, record { few = t .few; starts = t .starts; instances = t .instances; refused = true-false })
+      rw (drop-of-length-le s h) (places-end L (take i ts) (take i us) (mostOperations - i)) in (
+        sym z ∙ t .same,
+        record {
+          few = t .few;
+          starts = t .starts;
+          instances = t .instances;
+          faultless = λ _. refl;
+          refused = true-false;
+        },
+      )

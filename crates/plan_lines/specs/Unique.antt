@@ -10,7 +10,7 @@ use lib.Seq.{getD-take, length-take-le}
 use Rattle.sizes.specs.Sizes.{mostOperations}
 use Rattle.laws.specs.Entry.{vec, ZeroFrom, zero-one}
 use Rattle.plan_lines.specs.declared.PlanLines.{PlanLines}
-use Rattle.plan_lines.specs.Lines.{PlanRead, malformed, planOf, held, seen, LinesFit}
+use Rattle.plan_lines.specs.Lines.{PlanRead, malformed, planOf, held, seen, noLines, LinesFit}
 use Rattle.plan_lines.specs.Steps.{no-plan}
 
 -- ---- what a caller has
@@ -20,7 +20,7 @@ module _ (r : PlanLines) {want : PlanRead} (e : seen r ≡ want) where
   unfolding seen
   is-plan t = sym e ∙ rw t
 
-  pub is-none : r .ok ≡ false → want ≡ malformed
+  pub is-none : r .ok ≡ false → want ≡ malformed (r .fault)
   unfolding seen
   is-none t = sym e ∙ rw t
 
@@ -34,8 +34,8 @@ same-entries {m} {n} {xs} {ys} q y z e = zero-one (subst (λ (k : ℕ). ZeroFrom
     sym (getD-take m xs i 0 (omega arith)) ∙ ap (λ (l : List ℕ). vec l i) e ∙ getD-take n ys i 0 h)
 
 module _ (r q : PlanLines) (f : LinesFit r) (g : LinesFit q) where
-  same-held : r .ok ≡ q .ok → held r ≡ held q → r ≡ q
-  same-held k e =
+  same-held : r .ok ≡ true → q .ok ≡ true → held r ≡ held q → r ≡ q
+  same-held x y e =
       let l : r .interval ≡ q .interval = cc in
       let t : take (r .count) (r .starts) ≡ take (q .count) (q .starts) = cc in
       let u : take (r .count) (r .instances) ≡ take (q .count) (q .instances) = cc in
@@ -44,15 +44,21 @@ module _ (r q : PlanLines) (f : LinesFit r) (g : LinesFit q) where
       let n : r .count ≡ q .count = sym a ∙ ap length t ∙ b in
       let v = same-entries n (f .starts) (g .starts) t in
       let w = same-entries n (f .instances) (g .instances) u in
-      λ i. record { ok = k i; interval = l i; count = n i; starts = v i; instances = w i }
+      let k = x ∙ sym y in
+      let z = f .faultless x ∙ sym (g .faultless y) in
+      λ i. record { ok = k i; fault = z i; interval = l i; count = n i; starts = v i; instances = w i }
+
+same-line : {m n : ℕ} → malformed m ≡ malformed n → m ≡ n
+same-line e = cc
 
 -- the two flags, at their cases
 module _ (r q : PlanLines) {w : PlanRead} (d : seen r ≡ w) (e : seen q ≡ w) (f : LinesFit r) (g : LinesFit q) where
   one : (a b : Bool) → r .ok ≡ a → q .ok ≡ b → r ≡ q
-  one true true x y = same-held r q f g (x ∙ sym y) (sym (is-plan r d x) ∙ is-plan q e y)
+  one true true x y = same-held r q f g x y (sym (is-plan r d x) ∙ is-plan q e y)
   one true false x y = absurd (no-plan (sym (is-plan r d x) ∙ is-none q e y))
   one false true x y = absurd (no-plan (sym (is-plan q e y) ∙ is-none r d x))
-  one false false x y = f .refused x ∙ sym (g .refused y)
+  one false false x y =
+      f .refused x ∙ ap noLines (same-line (sym (is-none r d x) ∙ is-none q e y)) ∙ sym (g .refused y)
 
 pub read-unique : (bytes : List ℕ) (r q : PlanLines) → (seen r ≡ planOf bytes) × LinesFit r
     → (seen q ≡ planOf bytes) × LinesFit q → r ≡ q

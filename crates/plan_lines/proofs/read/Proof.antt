@@ -21,7 +21,7 @@ no-lines-requires c κs = search needs
 returns : tie.Need-returns
 returns c =
     let a = c .before .before .before in
-    none (c .no-lines .ensures)
+    none 1 (c .no-lines .ensures)
     (no-answer _ (is-bad _ 0 answerKey 1 _ (a .read-plain .ensures) (not-true _ (c .before .if1 .taken))))
 
 no-lines-requires-2 : tie.Need-no-lines-requires-2
@@ -31,7 +31,7 @@ returns-2 : tie.Need-returns-2
 returns-2 c =
     let e = c .before .before .before in
     let a = e .before .before in
-    none (c .no-lines2 .ensures)
+    none 1 (c .no-lines2 .ensures)
     (another-answer _ _ _ (is-line _ 0 answerKey 1 _ (a .read-plain .ensures) (not-false _ (e .if1 .left)))
     (c .before .if2 .taken))
 
@@ -50,7 +50,7 @@ returns-3 c =
     let z = l .before .before in
     let e = z .before .before in
     let a = e .before .before in
-    none (c .no-lines3 .ensures)
+    none 2 (c .no-lines3 .ensures)
     (no-interval _ _ _ (is-line _ 0 answerKey 1 _ (a .read-plain .ensures) (not-false _ (e .if1 .left))) (z .if2 .left)
     (is-bad _ (a .read-plain .result .next) intervalKey 1 _ (l .read-plain2 .ensures) (not-true _ (c .before .if3 .taken))))
 

@@ -21,6 +21,9 @@ abbrev μ-loop : tie.MeasureT-loop
 loop-holds : tie.Need-loop-holds Inv-loop μ-loop
 loop-holds c = start _ _ _
 
+add-no-lines : tie.Need-add-no-lines Inv-loop μ-loop
+add-no-lines c = search needs
+
 no-lines-requires : tie.Need-no-lines-requires Inv-loop μ-loop
 no-lines-requires c κs = search needs
 
@@ -34,6 +37,9 @@ slice-aggregate-read-plain c = search needs
 
 read-plain-requires : tie.Need-read-plain-requires Inv-loop μ-loop
 read-plain-requires c κs = search needs
+
+add-no-lines-2 : tie.Need-add-no-lines-2 Inv-loop μ-loop
+add-no-lines-2 c = search needs
 
 no-lines-requires-2 : tie.Need-no-lines-requires-2 Inv-loop μ-loop
 no-lines-requires-2 c κs = search needs
@@ -81,10 +87,12 @@ read-places-spec =
     Inv-loop
     μ-loop
     loop-holds
+    add-no-lines
     no-lines-requires
     returns
     slice-aggregate-read-plain
     read-plain-requires
+    add-no-lines-2
     no-lines-requires-2
     returns-2
     mul-starts

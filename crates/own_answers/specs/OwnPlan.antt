@@ -1,5 +1,5 @@
 -- What leastplan prints for a plan reads back as that plan; so `page`, given those lines in a file, prints the page of
--- the first plan. Assumes nothing.
+-- the first plan, and `judge` reads them as that plan. Assumes nothing.
 use mathlib.Core.Path.{_≡_, refl, sym, ap, _∙_}
 use mathlib.Core.List.{List, [], _∷_}
 use Prim.Native.Nat.{ℕ, zero, suc, _≤_, _<_}
@@ -26,12 +26,14 @@ use Rattle.report.specs.PlanText.{planText}
 use Rattle.report.specs.Small.{SmallList, small}
 
 -- one line for each operation is one for each start and its instance
-each-places : (n : ℕ) (ts us : List ℕ) → n ≤ length ts → n ≤ length us → each n (λ i. atLine (vec ts i) (vec us i)) ≡ atLines (take n ts) (take n us)
+each-places : (n : ℕ) (ts us : List ℕ) → n ≤ length ts → n ≤ length us
+    → each n (λ i. atLine (vec ts i) (vec us i)) ≡ atLines (take n ts) (take n us)
 unfolding each atLines
 each-places zero ts us h k = refl
 each-places (suc n) [] us h k = absurd (omega arith)
 each-places (suc n) (t ∷ ts) [] h k = absurd (omega arith)
-each-places (suc n) (t ∷ ts) (u ∷ us) h k = ap (λ (ls : List Line). atLine t u ∷ ls) (each-places n ts us (omega arith) (omega arith))
+each-places (suc n) (t ∷ ts) (u ∷ us) h k =
+    ap (λ (ls : List Line). atLine t u ∷ ls) (each-places n ts us (omega arith) (omega arith))
 
 -- a part of a list of small numbers is one
 cut-small : (n : ℕ) (xs : List ℕ) → SmallList xs → Small (take n xs)
@@ -45,7 +47,8 @@ cut-small n xs h i = at (decLt i n)
         short i k = let m = length-take n xs in omega arith
 
 module _ {s : Sheet} {L : ℕ} {a : PlanAnswer} (p : PlanAt s L a) (z : a .answer ≡ 0) where
-  long : (s .«op_count» ≤ length (a .starts)) × (s .«op_count» ≤ length (a .instances))
+  -- a place for each operation
+  pub long : (s .«op_count» ≤ length (a .starts)) × (s .«op_count» ≤ length (a .instances))
   long =
       let h = accepted-given p z in
       let g = h .1 in
@@ -57,10 +60,14 @@ module _ {s : Sheet} {L : ℕ} {a : PlanAnswer} (p : PlanAt s L a) (z : a .answe
   -- the lines that leastplan prints for the interval
   own-lines : intervalLines s L a ≡ linesFor L (take (s .«op_count») (a .starts)) (take (s .«op_count») (a .instances))
   unfolding intervalLines detail
-  own-lines = rw (eq-eqb (a .answer) 0 z, z) (ap (λ (ls : List Line). answerLine 0 ∷ intervalLine L ∷ ls) (each-places (s .«op_count») (a .starts) (a .instances) (long .0) (long .1)))
+  own-lines =
+      rw (eq-eqb (a .answer) 0 z, z)
+      (ap (λ (ls : List Line). answerLine 0 ∷ intervalLine L ∷ ls)
+      (each-places (s .«op_count») (a .starts) (a .instances) (long .0) (long .1)))
 
   -- read as the plan
-  pub own-plan : planOf (planText s L a) ≡ given L (take (s .«op_count») (a .starts)) (take (s .«op_count») (a .instances))
+  pub own-plan : planOf (planText s L a)
+      ≡ given L (take (s .«op_count») (a .starts)) (take (s .«op_count») (a .instances))
   own-plan =
       let n = s .«op_count» in
       let y = accepted-given p z .0 in

@@ -1,0 +1,4 @@
+-- ---- laws
+pub mod OwnPlan
+pub mod Refusals
+pub mod Own
