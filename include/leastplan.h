@@ -2,10 +2,10 @@
    Placing into a table that the host keeps is in leastplan_placing.h.
 
    Each call takes the bytes of a loop sheet and their count; a null pointer with count 0 is an empty sheet (2).
-   Each returns an answer and one number, which is 0 with every answer but 0. Nothing is kept between calls.
-   The buffer must not overlap the sheet, the starts or the instances. Calls take stack: about 0.4 MB was the most
-   measured, 0.7 MB is the most by the shape of the code (docs/PERFORMANCE.md); a thread with less may overflow its
-   stack.
+   Each returns an answer and one number, which is 0 with every answer but 0; leastplan_judge returns an answer alone.
+   Nothing is kept between calls. The buffer must not overlap the sheet, the starts or the instances. Calls take stack:
+   0.49 MB was the most measured, 0.7 MB is the most by the shape of the code (docs/PERFORMANCE.md); a thread with less
+   may overflow its stack.
 
    Answers of every call, put in this order:
      0  the number is what was asked for
@@ -67,6 +67,19 @@ leastplan_order leastplan_slot_order(const uint8_t *sheet, size_t sheet_length, 
 leastplan_text leastplan_page(
     const uint8_t *sheet, size_t sheet_length, size_t interval, const size_t *starts, size_t start_count,
     const size_t *instances, size_t instance_count, uint8_t *buffer, size_t room);
+
+/* What the answer of another supplier is judged: a plan, in the lines that leastplan prints (answer=0, interval=L, one
+   line at=t,u for each operation), or a denial (answer=5 or answer=6, interval=L, and a tree, one line a node; see
+   docs/FORMAT.md). Returns the number alone; a null pointer with length 0 is an empty text (18). 133,120 bytes are the
+   most that a text which is passed can have.
+     0   passed: the plan keeps every rule, or the tree shows that there is no plan at that interval
+     18  the text is no plan and no denial of this sheet: a malformed line, another answer, not one line at= for each
+         operation, a tree cut short or followed by more lines, an operation or an edge that the sheet lacks, more than
+         1,024 lines, 64 splits and seats above a leaf, or 24 edges in a walk or a chain
+     4   the text is in order, but its interval is not in 1 to the cap
+     19  the plan breaks a rule, a leaf of the tree is not so, or a seat cuts an operation of an unlimited type
+   1, 2, 3 and 16 come first, then these in the order 18, 4, 19: the whole text is read before 4 and 19 are asked. */
+uint64_t leastplan_judge(const uint8_t *sheet, size_t sheet_length, const uint8_t *answer, size_t answer_length);
 
 #ifdef __cplusplus
 }

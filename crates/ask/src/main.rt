@@ -1,11 +1,12 @@
 // ask: a command on a loop sheet, `ask COMMAND [interval=L] [pair=P]`, with the sheet on standard input, and at
-// descriptor 3 for `page_of_plan` the lines of a plan, for `table` a script.
-// The library says what the words ask for, `words::request`, what a plan's lines say, `plan_lines::read`, which line of
-// a script is at fault, `table_script::line_at_fault`, and all that is then printed, `commands::answer`,
-// `commands::page_of_plan` and `table_command::answer`. With words that ask for no command, with lines that are no plan
-// at the interval, and with a line that is no step of a script, it says so on standard error, reads no sheet and prints
-// nothing.
+// descriptor 3 for `page_of_plan` the lines of a plan, for `table` a script, for `judge` another supplier's answer.
+// The library says what the words ask for, `words::request`, what a plan's lines say or which of them is at fault,
+// `plan_lines::read`, which line of a script is at fault, `table_script::line_at_fault`, and all that is then printed,
+// `commands::answer`, `commands::page_of_plan`, `table_command::answer` and `judge_command::answer`. With words that ask
+// for no command, with lines that are no plan at the interval, and with a line that is no step of a script, it says so
+// on standard error, reads no sheet and prints nothing. What `judge` answers it says on standard error in words, too.
 use commands::ROOM;
+use judge::LONGEST_ANSWER;
 use libc::STDIN_FILENO;
 use libc::STDOUT_FILENO;
 use reader::LONGEST_SHEET;
@@ -27,7 +28,10 @@ const LONGEST_STEP: usize = 20;
 // One byte more than a script may have, so that a longer one is told.
 const SCRIPT_INPUT: usize = MOST_STEPS * LONGEST_STEP + 1;
 
-// Where the second file is read: the lines of a plan, or a script.
+// One byte more than another supplier's answer may have, so that a longer one is told.
+const ANSWER_INPUT: usize = LONGEST_ANSWER + 1;
+
+// Where the second file is read: the lines of a plan, a script, or another supplier's answer.
 const SECOND_FILENO: i32 = 3;
 
 // Room for the name of a command; a longer word is none.
@@ -92,7 +96,7 @@ fn print_page_of_plan(interval: usize) {
     let n = io::read_full(SECOND_FILENO, &mut input);
     let plan = plan_lines::read(&input[..n]);
     if !plan.ok {
-        told::no_plan();
+        told::no_plan(plan.fault);
         return;
     }
     if plan.interval != interval {
@@ -127,6 +131,25 @@ fn print_table_of_script(interval: usize) {
     print_table(interval, &script[..n]);
 }
 
+// Prints what is answered to another supplier's answer, and says it in words.
+fn print_judged(given: &[u8]) {
+    let mut input = [0u8; INPUT];
+    let n = io::read_full(STDIN_FILENO, &mut input);
+    let mut out = [0u8; judge_command::ROOM];
+    let written: Written = judge_command::answer(&input[..n], given, &mut out);
+    let count = written.count;
+    io::write_all(STDOUT_FILENO, &out[..count]);
+    let found = judge_command::examine(&input[..n], given);
+    told::judged(given, found.answer, found.line);
+}
+
+// Reads another supplier's answer, and has it judged.
+fn print_judged_answer() {
+    let mut given = [0u8; ANSWER_INPUT];
+    let n = io::read_full(SECOND_FILENO, &mut given);
+    print_judged(&given[..n]);
+}
+
 fn main() {
     let mut name = [0u8; LONGEST_NAME];
     let n = os::arg(1, &mut name);
@@ -134,6 +157,7 @@ fn main() {
         Asked::Do(command) => print(command),
         Asked::PageOfPlan(interval) => print_page_of_plan(interval),
         Asked::Table(interval) => print_table_of_script(interval),
+        Asked::Judge => print_judged_answer(),
         Asked::Unknown => told::unknown(),
         Asked::Strange => told::strange(),
         Asked::Missing(argument) => told::fault(argument, b" is missing"),

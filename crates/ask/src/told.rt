@@ -1,7 +1,8 @@
-// What is said on standard error where the words ask for no command, the lines of a plan are none, or a line of a
-// script is no step. `./leastplan` speaks to the person, so its name stands first. The words themselves are not
-// repeated.
+// What is said on standard error where the words ask for no command, a line of a plan is none, or a line of a script is
+// no step; and of another supplier's answer, whether it passed or not. `./leastplan` speaks to the person, so its name
+// stands first. The words themselves are not repeated.
 use libc::STDERR_FILENO;
+use plan_lines::MOST_LINES;
 use table_script::MOST_STEPS;
 use words::INTERVAL;
 
@@ -37,11 +38,27 @@ pub fn fault(argument: usize, wrong: &[u8]) {
     }
 }
 
-pub fn no_plan() {
-    line(
-        b"the plan",
-        b" is not answer=0, interval=L and at most 24 lines at=t,u, as leastplan prints them",
-    );
+// What is wrong with a line of a file, which goes by its number.
+fn at_line(number: usize, wrong: &[u8]) {
+    say(b"leastplan: line ");
+    io::print_decimal(STDERR_FILENO, number as u64);
+    say(wrong);
+    say(b"\n");
+}
+
+// The line of a plan that is not as leastplan prints it, or is past the most, by its number.
+pub fn no_plan(number: usize) {
+    if MOST_LINES < number {
+        at_line(
+            number,
+            b" of the plan is past the 24 lines at=t,u that it may have; try --help",
+        );
+    } else {
+        at_line(
+            number,
+            b" of the plan is not as in answer=0, interval=L and lines at=t,u, as leastplan prints them; try --help",
+        );
+    }
 }
 
 pub fn another_interval() {
@@ -53,12 +70,61 @@ pub fn another_interval() {
 
 // The line of a script that is no step, or is past the most, by its number.
 pub fn no_step(number: usize) {
-    say(b"leastplan: line ");
-    io::print_decimal(STDERR_FILENO, number as u64);
     if MOST_STEPS < number {
-        say(b" of the script is past the 1,024 lines that it may have");
+        at_line(
+            number,
+            b" of the script is past the 1,024 lines that it may have; try --help",
+        );
     } else {
-        say(b" of the script is not offer=op,start, book=op,start,instance or place=op,start");
+        at_line(
+            number,
+            b" of the script is not offer=op,start, book=op,start,instance or place=op,start; try --help",
+        );
     }
-    say(b"; try --help\n");
+}
+
+// The place of the number in `answer=0`, which begins a plan.
+const ANSWER_AT: usize = 7;
+
+// Whether another supplier's answer, whose first line is well formed, is a plan and no denial.
+fn is_plan(given: &[u8]) -> bool {
+    if given.len() <= ANSWER_AT {
+        return false;
+    }
+    given[ANSWER_AT] == b'0'
+}
+
+// What passed: the plan or the tree of a denial.
+fn passed(plan: bool) {
+    if plan {
+        say(b"leastplan: the plan keeps every rule\n");
+    } else {
+        say(b"leastplan: the tree shows that no plan exists at this interval\n");
+    }
+}
+
+// A line that is well formed and does not hold.
+fn not_so(plan: bool, number: usize) {
+    if plan {
+        at_line(number, b" of the answer breaks a rule of a plan");
+    } else {
+        at_line(number, b" of the answer is not so");
+    }
+}
+
+// What is answered to another supplier's answer, and the line of it at fault.
+pub fn judged(given: &[u8], answer: usize, number: usize) {
+    match answer {
+        0 => passed(is_plan(given)),
+        4 => at_line(
+            number,
+            b" of the answer names an interval that is not in 1 to the cap",
+        ),
+        18 => at_line(
+            number,
+            b" of the answer is missing, malformed, or none that may stand there for this sheet",
+        ),
+        19 => not_so(is_plan(given), number),
+        _ => say(b"leastplan: the sheet is refused; try check\n"),
+    }
 }

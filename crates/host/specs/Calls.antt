@@ -11,6 +11,8 @@ use Rattle.reader.specs.Read.{readOf}
 use Rattle.plan.specs.declared.IntervalAnswer.{IntervalAnswer}
 use Rattle.plan.specs.Answers.{LeastInterval}
 use Rattle.page.specs.Answers.{PageAnswer, pageRefused, PageAt}
+use Rattle.judge.specs.Answers.{JudgedAt}
+use Rattle.judge.specs.Bytes.{JudgeOf}
 use Rattle.report.specs.declared.PlanWritten.{PlanWritten}
 use Rattle.report.specs.PlanText.{PlanText}
 use Rattle.slot_order.specs.declared.SlotOrder.{SlotOrder}
@@ -73,3 +75,10 @@ module _ (bytes : List ℕ) {q : ReadAnswer} (e : q ≡ readOf bytes) where
 
   pub page-served : {L : ℕ} {ts us old : List ℕ} {a : PageAnswer} → q .answer ≡ 0 → PageAt (q .sheet) L ts us old a → PageOf bytes L ts us old a
   page-served {L} {ts} {us} {old} {a} z p = at-yes (sym same-answer ∙ z) (subst (λ (s : Sheet). PageAt s L ts us old a) (ap (λ (x : ReadAnswer). x .sheet) e) p)
+
+  pub judge-unread : (answer : List ℕ) → (q .answer ≡ 0 → ⊥) → JudgeOf bytes answer (q .answer)
+  judge-unread answer n = at-no (λ z. n (same-answer ∙ z)) same-answer
+
+  pub judge-served : (answer : List ℕ) {r : ℕ} → q .answer ≡ 0 → JudgedAt (q .sheet) answer r → JudgeOf bytes answer r
+  judge-served answer {r} z p =
+      at-yes (sym same-answer ∙ z) (subst (λ (s : Sheet). JudgedAt s answer r) (ap (λ (x : ReadAnswer). x .sheet) e) p)

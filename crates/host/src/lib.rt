@@ -1,5 +1,6 @@
-// C calls on the bytes of a sheet: least interval, plan text, slot order, page. They read the sheet and call the
-// service; include/leastplan.h describes them.
+// C calls on the bytes of a sheet: least interval, plan text, slot order, page, judgement. They read the sheet and call
+// the service; include/leastplan.h describes them.
+ghost use Rattle.judge.specs.Bytes.{JudgeOf};
 ghost use Rattle.host.specs.Calls.{LeastOf, PlanTextOf, SlotOrderOf, PageOf};
 use plan::IntervalAnswer;
 use text::Written;
@@ -81,4 +82,17 @@ pub extern "C" fn leastplan_page(
     }
     let numbers = read.sheet;
     page::page(numbers, interval, starts, instances, out)
+}
+
+#[no_mangle]
+pub extern "C" fn leastplan_judge(sheet: &[u8], answer: &[u8]) -> usize
+    ensures { λ r. ⌜ JudgeOf (now (sheet .entry)) (now (answer .entry)) r ⌝ }
+{
+    let read = reader::read(sheet);
+    let refusal = read.answer;
+    if refusal != 0 {
+        return refusal;
+    }
+    let numbers = read.sheet;
+    judge::judge(numbers, answer)
 }

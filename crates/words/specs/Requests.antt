@@ -7,7 +7,7 @@ use lib.Dec.{eqb}
 use Rattle.words.specs.declared.Given.{Given}
 use Rattle.words.specs.declared.Command.the-variants.{Bounds, Starts, Separations, Plan, Page, Order, Check, Write}
 use Rattle.words.specs.declared.Asked.{Asked}
-use Rattle.words.specs.declared.Asked.the-variants.{Do, PageOfPlan, Table, Unknown, Strange, Missing, Twice, Foreign}
+use Rattle.words.specs.declared.Asked.the-variants.{Do, PageOfPlan, Table, Judge, Unknown, Strange, Missing, Twice, Foreign}
 
 -- ---- the table
 
@@ -43,6 +43,15 @@ writeRow = record {
   interval = false;
   pair = false;
   asks = λ L P. Do Write;
+}
+
+-- `judge`
+abbrev pub judgeRow : Row
+judgeRow = record {
+  name = 106 ∷ 117 ∷ 100 ∷ 103 ∷ 101 ∷ [];
+  interval = false;
+  pair = false;
+  asks = λ L P. Judge;
 }
 
 -- `starts interval=L`
@@ -114,7 +123,7 @@ intervalRows = startsRow ∷ separationsRow ∷ planRow ∷ pageRow ∷ pageOfPl
 
 -- the commands
 abbrev pub rows : List Row
-rows = boundsRow ∷ checkRow ∷ writeRow ∷ intervalRows
+rows = boundsRow ∷ checkRow ∷ writeRow ∷ judgeRow ∷ intervalRows
 
 -- ---- the arguments
 

@@ -23,12 +23,14 @@ pub const INTERVAL: usize = 0;
 pub const PAIR: usize = 1;
 
 // What the words ask for: a command to be done on the sheet alone, or, with lines that come besides, the page of a plan
-// or a script on a placing table, both at an interval; or what is wrong with them: no such command, a word that is no
-// argument, an argument that is missing, given more than once, or not taken by this command.
+// or a script on a placing table, both at an interval, or another supplier's answer judged; or what is wrong with them:
+// no such command, a word that is no argument, an argument that is missing, given more than once, or not taken by this
+// command.
 pub enum Asked {
     Do(Command),
     PageOfPlan(usize),
     Table(usize),
+    Judge,
     Unknown,
     Strange,
     Missing(usize),
@@ -183,6 +185,9 @@ pub fn request(name: &[u8], given: Given) -> Asked
     }
     if check::same(name, b"write") {
         return taking(given, false, false, Asked::Do(Command::Write));
+    }
+    if check::same(name, b"judge") {
+        return taking(given, false, false, Asked::Judge);
     }
     at_interval(name, given)
 }

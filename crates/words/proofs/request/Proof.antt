@@ -34,6 +34,13 @@ past-3 : (c : tie.Else3) → Past 3 (start-3 c)
 unfolding Past
 past-3 c = past-2 (c .before .before .before) ∙ passed _ _ _ _ (c .before .same3 .ensures) (c .if3 .left)
 
+abbrev start-4 : tie.Else4 → tie.Start
+start-4 c = start-3 (c .before .before .before)
+
+past-4 : (c : tie.Else4) → Past 4 (start-4 c)
+unfolding Past
+past-4 c = past-3 (c .before .before .before) ∙ passed _ _ _ _ (c .before .same4 .ensures) (c .if4 .left)
+
 slice-aggregate-same : tie.Need-slice-aggregate-same
 slice-aggregate-same c = search needs
 
@@ -72,12 +79,25 @@ returns-3 : tie.Need-returns-3
 unfolding Past
 returns-3 c = c .taking3 .ensures ∙ sym (past-2 (c .before .before .before .before) ∙ found _ _ _ _ (c .before .before .same3 .ensures) (c .before .if3 .taken))
 
-at-interval-requires : tie.Need-at-interval-requires
-at-interval-requires c κs = search needs
+slice-aggregate-same-4 : tie.Need-slice-aggregate-same-4
+slice-aggregate-same-4 c = search needs
+
+same-requires-4 : tie.Need-same-requires-4
+same-requires-4 c κs = search needs
+
+taking-requires-4 : tie.Need-taking-requires-4
+taking-requires-4 c κs = search needs
 
 returns-4 : tie.Need-returns-4
 unfolding Past
-returns-4 c = c .at-interval .ensures ∙ sym (past-3 (c .before))
+returns-4 c = c .taking4 .ensures ∙ sym (past-3 (c .before .before .before .before) ∙ found _ _ _ _ (c .before .before .same4 .ensures) (c .before .if4 .taken))
+
+at-interval-requires : tie.Need-at-interval-requires
+at-interval-requires c κs = search needs
+
+returns-5 : tie.Need-returns-5
+unfolding Past
+returns-5 c = c .at-interval .ensures ∙ sym (past-4 (c .before))
 
 pub request-spec : {M : Type 1} → statement M
 request-spec =
@@ -95,5 +115,9 @@ request-spec =
     same-requires-3
     taking-requires-3
     returns-3
+    slice-aggregate-same-4
+    same-requires-4
+    taking-requires-4
+    returns-4
     at-interval-requires
-    returns-4)
+    returns-5)
