@@ -48,6 +48,10 @@ static void put_sheet(char *text, loop s, windows some)
 /* The cases of document 01, and one operation whose result just meets the horizon or comes late. */
 static char A[TEXT], B[TEXT], NOT_MONOTONE[TEXT], SELF[TEXT], THREE[TEXT], ONE[TEXT], LATE[TEXT];
 
+/* The second operation would have to start at -3 to end in time; an edge has it start two clocks before the first, in
+   EARLY_NOT three. */
+static char EARLY[TEXT], EARLY_NOT[TEXT];
+
 /* Case B with windows. DUE: the last operation starts by clock 2. SETTLED: the first from clock 1 on, the last at 3.
    NEVER: the first from 1 on and the last by 2, which the operation between them forbids. */
 static char DUE[TEXT], SETTLED[TEXT], NEVER[TEXT];
@@ -78,6 +82,8 @@ static void plain_sheets(void)
     put_sheet(THREE, (loop){2, 2, 1, {{2, 1}}, 3, {0, 0, 0}, 0, {{0}}}, NULL);
     put_sheet(ONE, (loop){2, 1, 1, {{1, 2}}, 1, {0}, 0, {{0}}}, NULL);
     put_sheet(LATE, (loop){1, 1, 1, {{1, 2}}, 1, {0}, 0, {{0}}}, NULL);
+    put_sheet(EARLY, (loop){1, 1, 2, {{0, 0}, {0, 4}}, 2, {0, 1}, 1, {{0, 1, -2, 0}}}, NULL);
+    put_sheet(EARLY_NOT, (loop){1, 1, 2, {{0, 0}, {0, 4}}, 2, {0, 1}, 1, {{0, 1, -3, 0}}}, NULL);
 }
 
 static void windowed_sheets(void)
@@ -455,6 +461,140 @@ static void refused_sheets(void)
     }
 }
 
+static int judged_is(const char *text, size_t length, const char *given, size_t given_length, uint64_t answer)
+{
+    uint8_t *sheet = copy_of(text, length), *lines = copy_of(given, given_length);
+    uint64_t got = leastplan_judge(sheet, length, lines, given_length);
+    free(sheet);
+    free(lines);
+    return got == answer;
+}
+
+static int judged(const char *text, const char *given, uint64_t answer)
+{
+    return judged_is(text, strlen(text), given, strlen(given), answer);
+}
+
+/* No plan of A at interval 2: the last operation comes two clocks after the first, and so in its slot. */
+static const char DENIAL_A[] =
+    "answer=6\ninterval=2\nsplit=0,0\nsplit=2,1\nlate=0,0,1\nclash=0,2\nlate=0,0,1\n";
+
+/* Each two of three operations meet, so two units are not enough. */
+#define SEATS                                                              \
+    "seat=0,0\nseat=1,0\nclash=0,1\nseat=2,0\nclash=0,2\nclash=1,2\n" \
+    "seat=1,0\nseat=2,0\nclash=1,2\nclash=0,2\nclash=0,1\n"
+
+static void judged_plans(void)
+{
+    EXPECT(judged(A, PLAN_A, 0));
+    EXPECT(judged(B, PLAN_A, 0));
+    EXPECT(judged(DUE, PLAN_A, 0));
+    EXPECT(judged(THREE, PLAN_THREE, 0));
+    EXPECT(judged(THREE, "answer=0\ninterval=2\nat=1,1\nat=1,0\nat=0,1\n", 0));
+    EXPECT(judged(BUSY, "answer=0\ninterval=4\nat=3,0\nat=5,0\n", 0));
+    EXPECT(judged(SETTLED, PLAN_A, 19));
+    EXPECT(judged(A, "answer=0\ninterval=2\nat=0,0\nat=1,0\nat=2,0\n", 19));
+    EXPECT(judged(A, "answer=0\ninterval=3\nat=0,0\nat=1,1\nat=2,0\n", 19));
+    EXPECT(judged(A, "answer=0\ninterval=3\nat=0,0\nat=1,0\nat=9999,9999\n", 19));
+    EXPECT(judged(LATE, "answer=0\ninterval=1\nat=0,0\n", 19));
+    EXPECT(judged(BUSY, "answer=0\ninterval=4\nat=3,0\nat=4,0\n", 19));
+    EXPECT(judged(BUSY, "answer=0\ninterval=1\nat=3,0\nat=5,0\n", 19));
+}
+
+static void judged_denials(void)
+{
+    EXPECT(judged(A, "answer=5\ninterval=1\nloop=0,1,2\n", 0));
+    EXPECT(judged(A, "answer=6\ninterval=1\nloop=2,0,1\n", 0));
+    EXPECT(judged(A, "answer=5\ninterval=2\nloop=0,1,2\n", 19));
+    EXPECT(judged(A, "answer=5\ninterval=1\nloop=0,1\n", 19));
+    EXPECT(judged(SELF, "answer=5\ninterval=3\nloop=0\n", 0));
+    EXPECT(judged(A, DENIAL_A, 0));
+    EXPECT(judged(B, DENIAL_A, 19));
+    EXPECT(judged(LATE, "answer=6\ninterval=1\nlate=0\n", 0));
+    EXPECT(judged(ONE, "answer=6\ninterval=1\nlate=0\n", 19));
+    EXPECT(judged(EARLY, "answer=6\ninterval=1\nlate=0,0\n", 0));
+    EXPECT(judged(EARLY_NOT, "answer=6\ninterval=1\nlate=0,0\n", 19));
+    EXPECT(judged(EARLY_NOT, "answer=6\ninterval=1\nlate=1\n", 0));
+    EXPECT(judged(LONG, "answer=6\ninterval=2\nclash=0,0\n", 0));
+    EXPECT(judged(LONG, "answer=6\ninterval=3\nclash=0,0\n", 19));
+    EXPECT(judged(LONG, "answer=6\ninterval=2\nclash=1,1\n", 19));
+    EXPECT(judged(AROUND, "answer=6\ninterval=6\n" SEATS, 0));
+    EXPECT(judged(AROUND, "answer=6\ninterval=5\n" SEATS, 0));
+    EXPECT(judged(AROUND, "answer=6\ninterval=7\n" SEATS, 19));
+    EXPECT(judged(A, "answer=5\ninterval=1\nseat=0,9999\nloop=0,1,2\nloop=0,1,2\n", 0));
+    EXPECT(judged(A, "answer=5\ninterval=1\nseat=1,0\nloop=0,1,2\nloop=0,1,2\n", 19));
+}
+
+/* 18, whatever the sheet has: parts of a text, more than a text, other bytes, names that the sheet lacks. */
+static void malformed_answers(void)
+{
+    char damaged[sizeof DENIAL_A + 1];
+    size_t whole = strlen(DENIAL_A);
+    for (size_t length = 0; length < whole; length++) EXPECT(judged_is(A, strlen(A), DENIAL_A, length, 18));
+    for (size_t length = 0; length < strlen(PLAN_A); length++) EXPECT(judged_is(A, strlen(A), PLAN_A, length, 18));
+    for (size_t k = 0; k <= whole; k++) {
+        memcpy(damaged, DENIAL_A, sizeof DENIAL_A);
+        damaged[k] = (char)0xFF;
+        EXPECT(judged_is(A, strlen(A), damaged, k < whole ? whole : whole + 1, 18));
+    }
+    EXPECT(judged_is(A, strlen(A), DENIAL_A, whole + 1, 18));
+    EXPECT(judged(A, "answer=7\n", 18));
+    EXPECT(judged(A, "answer=6\ninterval=2\n", 18));
+    EXPECT(judged(THREE, "answer=6\ninterval=1\nloop=0\n", 18));
+    EXPECT(judged(A, "answer=6\ninterval=2\nlate=3\n", 18));
+    EXPECT(judged(A, "answer=6\ninterval=2\nlate=0,3\n", 18));
+}
+
+/* The sheet goes before the text, and of that 18 before 4, and 4 before 19. */
+static void order_of_judging(void)
+{
+    static char longer[LONGEST + 2];
+    memset(longer, '\n', LONGEST + 1);
+    EXPECT(judged(longer, PLAN_A, 1));
+    EXPECT(judged("", PLAN_A, 2));
+    EXPECT(judged("horizon=129\n", "", 3));
+    EXPECT(judged(WRONG_BUSY, PLAN_A, 3));
+    EXPECT(judged(UPSIDE_DOWN, "", 16));
+    EXPECT(judged(A, "answer=0\ninterval=0\nat=0,0\nat=1,0\nat=2,0\nx", 18));
+    EXPECT(judged(A, "answer=0\ninterval=0\nat=0,0\nat=1,0\nat=2,0\n", 4));
+    EXPECT(judged(A, "answer=0\ninterval=5\nat=9,9\nat=1,0\nat=2,0\n", 4));
+    EXPECT(judged(A, "answer=5\ninterval=9999\nloop=0\n", 4));
+    EXPECT(judged(A, "answer=6\ninterval=2\nsplit=0,0\nlate=0\nlate=0,0,1,\n", 18));
+    EXPECT(leastplan_judge(NULL, 0, NULL, 0) == 2);
+    EXPECT(leastplan_judge(NULL, 0, (const uint8_t *)PLAN_A, strlen(PLAN_A)) == 2);
+    EXPECT(leastplan_judge((const uint8_t *)A, strlen(A), NULL, 0) == 18);
+}
+
+/* A loop below so many cuts, each of which leads to the last leaf. */
+static void put_cuts(char *text, int cuts)
+{
+    text += sprintf(text, "answer=5\ninterval=1\n");
+    for (int k = 0; k < cuts; k++) text += sprintf(text, k % 2 ? "seat=0,0\nloop=0,1,2\n" : "split=1,0\nloop=0,1,2\n");
+    sprintf(text, "loop=0,1,2\n");
+}
+
+/* A tree of so many leaves, the same number of cuts above each or one more. */
+static char *put_leaves(char *text, int leaves)
+{
+    if (leaves == 1) return text + sprintf(text, "loop=0,1,2\n");
+    text = put_leaves(text + sprintf(text, "split=1,0\n"), leaves / 2);
+    return put_leaves(text, leaves - leaves / 2);
+}
+
+/* 64 cuts above a leaf, 1,024 lines with the first two; a tree has an odd number of them. */
+static void sizes_of_answers(void)
+{
+    static char text[1 << 15];
+    for (int cuts = 0; cuts <= 66; cuts++) {
+        put_cuts(text, cuts);
+        EXPECT(judged(A, text, cuts > 64 ? 18 : 0));
+    }
+    for (int leaves = 509; leaves <= 513; leaves++) {
+        put_leaves(text + sprintf(text, "answer=5\ninterval=1\n"), leaves);
+        EXPECT(judged(A, text, leaves > 511 ? 18 : 0));
+    }
+}
+
 int main(void)
 {
     plain_sheets();
@@ -474,6 +614,11 @@ int main(void)
     null_pointers();
     largest_page();
     refused_sheets();
+    judged_plans();
+    judged_denials();
+    malformed_answers();
+    order_of_judging();
+    sizes_of_answers();
     if (!failures) printf("ok C calls (%d checks)\n", checks);
     return failures != 0;
 }

@@ -39,6 +39,7 @@ class Host:
         self.library = product.library("host")
         for name in ("least_interval", "plan_text", "slot_order", "page"):
             getattr(self.library, "leastplan_" + name).restype = Answer
+        self.library.leastplan_judge.restype = ctypes.c_uint64
 
     def least_interval(self, sheet):
         got = self.library.leastplan_least_interval(*counted(sheet))
@@ -55,3 +56,6 @@ class Host:
     def page(self, sheet, interval, starts, units, room):
         given = *counted(sheet), SIZE(interval), *numbers(starts), *numbers(units)
         return written(lambda *buffer: self.library.leastplan_page(*given, *buffer), room)
+
+    def judge(self, sheet, answer):
+        return self.library.leastplan_judge(*counted(sheet), *counted(answer))

@@ -1,5 +1,5 @@
 """Plans that are handed in for a page, as (starts, instances): full and consistent, with each fault that question 10
-names, with any counts; and their lines, well formed and not."""
+names, with any counts; their lines, well formed and not; and what is said of those that are not."""
 
 import itertools
 
@@ -14,6 +14,14 @@ WIDEST = ref.plain_sheet(128, 64, [(8, 1)] * 8, [i % 8 for i in range(ref.MOST_O
 
 # The same with units that are busy for as long as they may be.
 BUSIEST = ref.with_busy(WIDEST, [ref.RANGES["K"][1]] * 8)
+
+
+def told(line):
+    """What is said on standard error of lines that are no plan, by the number of the first that is none."""
+    wrong = b"not as in answer=0, interval=L and lines at=t,u, as leastplan prints them"
+    if 2 + ref.MOST_OPERATIONS < line:
+        wrong = b"past the 24 lines at=t,u that it may have"
+    return b"leastplan: line %d of the plan is %s; try --help\n" % (line, wrong)
 
 
 # ---- starts and instances

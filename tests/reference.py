@@ -13,7 +13,8 @@ Sums over walks come from a table by length and ends, so all but plans can be ha
 plans are slow, and for small sheets only.
 
 As a program:  reference.py [COMMAND [name=number ..]] < SHEET   prints what leastplan prints; with 3< PLAN the
-command page_of_plan too, and with 3< SCRIPT the command table.
+command page_of_plan too, with 3< SCRIPT the command table, and with 3< ANSWER the command judge, which
+judge_reference.py answers.
 """
 
 import itertools
@@ -699,6 +700,15 @@ def plan_of_lines(text):
     return int(found[1]), [t for t, _ in places], [u for _, u in places]
 
 
+def plan_line_at_fault(text):
+    """The number, from 1, of the first line that makes the text no plan's lines: one that is not as it should be, is
+    missing, or is one too many."""
+    forms = [b"answer=0\n", b"interval=%s\n" % PLAIN] + [b"at=%s,%s\n" % (PLAIN, PLAIN)] * MOST_OPERATIONS
+    lines = re.findall(rb"[^\n]*\n|[^\n]+", text)
+    fit = itertools.takewhile(lambda pair: re.fullmatch(*pair), zip(forms, lines))
+    return len(list(fit)) + 1
+
+
 # ---- a script: lines that each ask for an offer, a booking or a placement
 
 MOST_STEPS = 1024
@@ -795,6 +805,13 @@ def table_rows(sheet, script, interval):
     return rows + list(reservation_rows(sheet, interval, table))
 
 
+def judge_rows(sheet, text):
+    """What is answered to another supplier's plan or denial; that part stands on this one."""
+    from judge_reference import judge_bytes
+
+    return ["answer=%d" % judge_bytes(sheet_text(sheet), text)]
+
+
 # The arguments that a command takes, each once, in any order; and its lines.
 COMMANDS = {
     "bounds": (set(), bounds_rows),
@@ -804,6 +821,7 @@ COMMANDS = {
     "order": ({"interval", "pair"}, order_rows),
     "page": ({"interval"}, page_rows),
     "table": ({"interval"}, table_rows),
+    "judge": (set(), judge_rows),
     "check": (set(), lambda sheet, _: ["answer=0"]),
     "write": (set(), lambda sheet, _: sheet_rows(sheet)),
 }
@@ -830,7 +848,11 @@ def plan_given(text, interval):
 
 
 # The commands that read a second file, and what each has from its text; None where the text is not as it should be.
-SECOND = {PAGE_OF_PLAN: plan_given, "table": lambda text, interval: script_of_lines(text)}
+SECOND = {
+    PAGE_OF_PLAN: plan_given,
+    "table": lambda text, interval: script_of_lines(text),
+    "judge": lambda text: text,
+}
 
 
 def is_asked(words, second):

@@ -449,7 +449,8 @@ output, byte for byte, up to an empty line. tests/stored.py makes this page by t
 tests/check_commands types all of it again.
 """
 
-# The words of each command on the page, the sheet among the examples, and the second file, if any: a plan or a script.
+# The words of each command on the page, the sheet among the examples, and the second file, if any: a plan, a script or
+# another supplier's answer.
 PAGE = [
     ("bounds", "phase_locked_loop.sheet"),
     ("bounds", "no_register.sheet"),
@@ -473,6 +474,11 @@ PAGE = [
     ("page interval=4", "never_idle.sheet", "never_idle.plan"),
     ("table interval=3", "three_phases.sheet", "three_phases.script"),
     ("table interval=8", "divider.sheet", "divider.script"),
+    ("judge", "three_phases.sheet", "three_phases.plan"),
+    ("judge", "both_bounds_low.sheet", "both_bounds_low.denial"),
+    ("judge", "counts_fit.sheet", "counts_fit.denial"),
+    ("judge", "earliest_slot_full.sheet", "both_bounds_low.denial"),
+    ("judge", "both_bounds_low.sheet", "three_phases.plan"),
     ("check", "sample_deadline.sheet"),
     ("check", "leading_zero.sheet"),
     ("check", "window_reversed.sheet"),
