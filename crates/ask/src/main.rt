@@ -1,6 +1,6 @@
 // ask: a command on a loop sheet, `ask COMMAND [interval=L] [pair=P]`, with the sheet on standard input, and at
 // descriptor 3 for `page_of_plan` the lines of a plan, for `table` a script, for `judge` another supplier's answer.
-// The library says what the words ask for, `words::request`, what a plan's lines say or which of them is at fault,
+// The library says what the words ask for, `requests::request`, what a plan's lines say or which of them is at fault,
 // `plan_lines::read`, which line of a script is at fault, `table_script::line_at_fault`, and all that is then printed,
 // `commands::answer`, `commands::page_of_plan`, `table_command::answer` and `judge_command::answer`. With words that ask
 // for no command, with lines that are no plan at the interval, and with a line that is no step of a script, it says so
@@ -153,7 +153,7 @@ fn print_judged_answer() {
 fn main() {
     let mut name = [0u8; LONGEST_NAME];
     let n = os::arg(1, &mut name);
-    match words::request(&name[..n], arguments()) {
+    match requests::request(&name[..n], arguments()) {
         Asked::Do(command) => print(command),
         Asked::PageOfPlan(interval) => print_page_of_plan(interval),
         Asked::Table(interval) => print_table_of_script(interval),

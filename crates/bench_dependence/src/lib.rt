@@ -4,11 +4,11 @@ ghost use Rattle.laws.specs.Says.{Says};
 ghost use Rattle.dependence.specs.Graph.{InRange};
 ghost use Rattle.dependence.specs.Answer.{TotalsAnswer, StartsAnswer, WalkAnswer, BoundAnswer, TableAnswer, Separations, Lags};
 ghost use Rattle.bench_dependence.specs.Cells.{CellAt, CellOf};
-use dependence::BadWalk;
-use dependence::Bound;
+use constraints::BadWalk;
+use constraints::Bound;
+use constraints::Starts;
 use dependence::EdgeTotals;
 use dependence::Graph;
-use dependence::Starts;
 use sizes::MOST_OPERATIONS;
 
 // A floor for each operation.
@@ -36,21 +36,21 @@ pub extern "C" fn dependence_earliest(graph: Graph, interval: usize, floor: Floo
     ensures { λ r. ⌜ StartsAnswer graph interval (floor .at) (r .answer) (r .starts) (r .«loop_length») (r .«loop_edges») ⌝ }
 {
     let at = floor.at;
-    dependence::earliest(graph, interval, at)
+    constraints::earliest(graph, interval, at)
 }
 
 #[no_mangle]
 pub extern "C" fn dependence_bad_walk(graph: Graph, interval: usize) -> BadWalk
     ensures { λ r. ⌜ WalkAnswer graph interval (r .answer) (r .«loop_length») (r .«loop_edges») ⌝ }
 {
-    dependence::bad_walk(graph, interval)
+    constraints::bad_walk(graph, interval)
 }
 
 #[no_mangle]
 pub extern "C" fn dependence_bound(graph: Graph, cap: usize) -> Bound
     ensures { λ r. ⌜ BoundAnswer graph cap (r .answer) (r .value) ⌝ }
 {
-    dependence::recurrence_bound(graph, cap)
+    constraints::recurrence_bound(graph, cap)
 }
 
 fn cell(table: [[i32; MOST_OPERATIONS]; MOST_OPERATIONS], i: usize, j: usize) -> i32
@@ -68,12 +68,12 @@ fn cell(table: [[i32; MOST_OPERATIONS]; MOST_OPERATIONS], i: usize, j: usize) ->
 pub extern "C" fn dependence_separation(graph: Graph, interval: usize, i: usize, j: usize) -> i32
     ensures { λ r. ⌜ CellOf (TableAnswer graph interval (Separations graph interval)) i j r ⌝ }
 {
-    cell(dependence::separations(graph, interval), i, j)
+    cell(constraints::separations(graph, interval), i, j)
 }
 
 #[no_mangle]
 pub extern "C" fn dependence_lag(graph: Graph, interval: usize, i: usize, j: usize) -> i32
     ensures { λ r. ⌜ CellOf (TableAnswer graph interval (Lags graph interval)) i j r ⌝ }
 {
-    cell(dependence::lags(graph, interval), i, j)
+    cell(lags::lags(graph, interval), i, j)
 }

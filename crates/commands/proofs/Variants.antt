@@ -10,7 +10,7 @@ use denote.Enum.Declared.{tagOf}
 use Rattle.text.specs.Answers.{answerLine}
 use Rattle.words.specs.declared.Command.{Command}
 use Rattle.words.specs.declared.Command.the-variants.{Bounds, Starts, Separations, Plan, Page, Order, Check, Write}
-use Rattle.commands.specs.Listing.{refusalLines}
+use Rattle.command_lines.specs.Listing.{refusalLines}
 use Rattle.words.proofs.Command as T
 
 -- every command but `check`

@@ -24,9 +24,9 @@ use Rattle.page_text.specs.Widths.{longestPage, page-long, page-most}
 use Rattle.page.specs.Answers.{fullTable, planPage, Tabled, PageAnswer, PageAt}
 use Rattle.page.specs.OfPlans.{cut-page, plan-full}
 use Rattle.words.specs.declared.Command.the-variants.{Page}
-use Rattle.commands.specs.Listing.{firstPage}
-use Rattle.commands.specs.Prints.{Serves, page, ServesPage, Put}
-use Rattle.commands.specs.Answers.{page-given}
+use Rattle.command_lines.specs.Listing.{firstPage}
+use Rattle.command_lines.specs.Prints.{Serves, page, ServesPage, Put}
+use Rattle.command_lines.specs.Answers.{page-given}
 
 abbrev number : PageAnswer → ℕ
 number a = a .written .answer

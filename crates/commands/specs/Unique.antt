@@ -12,9 +12,9 @@ use Rattle.text.specs.declared.Written.{Written}
 use Rattle.text.specs.Lines.{linesText}
 use Rattle.text.specs.Answers.{refusalText}
 use Rattle.text.specs.PutLaws.{put-one}
-use Rattle.dependence.specs.declared.bound.Bound as recurrence
-use Rattle.dependence.specs.declared.loops.BadWalk as loops
-use Rattle.dependence.specs.declared.starts.Starts as earliest
+use Rattle.constraints.specs.declared.bound.Bound as recurrence
+use Rattle.constraints.specs.declared.loops.BadWalk as loops
+use Rattle.constraints.specs.declared.starts.Starts as earliest
 use Rattle.dependence.specs.Answer.{table-found}
 use Rattle.dependence.specs.Unique.{separations-one}
 use Rattle.sheet.specs.declared.Sheet.{Sheet}
@@ -28,14 +28,14 @@ use Rattle.timing.specs.Unique.{walk-at-unique, starts-at-unique, recurrence-at
 use Rattle.plan.specs.declared.resource.Bound as resource
 use Rattle.plan.specs.declared.PlanAnswer.{PlanAnswer}
 use Rattle.plan.specs.Unique.{plan-at-unique, resource-unique}
-use Rattle.slot_order.specs.declared.SlotOrder.{SlotOrder}
-use Rattle.slot_order.specs.Unique.{slot-order-unique}
+use Rattle.pair_order.specs.declared.SlotOrder.{SlotOrder}
+use Rattle.pair_order.specs.Unique.{slot-order-unique}
 use Rattle.round_trip.specs.Reading.{read-in-range}
 use Rattle.words.specs.declared.Command.{Command}
 use Rattle.words.specs.declared.Command.the-variants.{Write}
-use Rattle.commands.specs.Listing.{cellOf, rowLine, boundsLines, startsLines, separationsLines, planLines, orderLines, firstPage, answerAt}
-use Rattle.commands.specs.Prints as prints
-use Rattle.commands.specs.Prints.{Serves, Prints, PrintsPage, Answered, AnsweredPage}
+use Rattle.command_lines.specs.Listing.{cellOf, rowLine, boundsLines, startsLines, separationsLines, planLines, orderLines, firstPage, answerAt}
+use Rattle.command_lines.specs.Prints as prints
+use Rattle.command_lines.specs.Prints.{Serves, Prints, PrintsPage, Answered, AnsweredPage}
 
 module _ {s : Sheet} (ok : InRange s) where
   -- one table, cell by cell

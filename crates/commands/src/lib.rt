@@ -3,18 +3,16 @@
 ghost use Prim.Native.Nat.{_≤_};
 ghost use Rattle.text.specs.Sizes.{greatestNumber};
 ghost use Rattle.sheet.specs.Sheet.{InRange, Arrays};
-ghost use Rattle.commands.specs.Listing.{refusalLines};
-ghost use Rattle.commands.specs.Prints.{Put, Serves, Answered, AnsweredPage};
-ghost use Rattle.commands.specs.Shows.{Shows};
+ghost use Rattle.command_lines.specs.Listing.{refusalLines};
+ghost use Rattle.command_lines.specs.Prints.{Put, Serves, Answered, AnsweredPage};
+ghost use Rattle.command_lines.specs.Shows.{Shows};
 use lines::Lines;
 use sheet::Sheet;
 use text::Written;
 use words::Command;
 
+mod orders; // orders.rt: the lines of a slot order
 mod pages; // pages.rt: pages of plans
-mod parts; // parts.rt: lines that several answers share
-mod rows; // rows.rt: the rows of the separation table
-mod services; // services.rt: the lines of each service's answer
 
 // Room for whatever a command prints; a page, the longest, leaves a thousand bytes of it.
 pub const ROOM: usize = 24576;
@@ -24,9 +22,9 @@ fn plan(sheet: Sheet, interval: usize, out: &mut [u8]) -> Written
     requires { ⌜ InRange sheet ⌝ }
     ensures { λ r. ⌜ Put (Serves sheet (Command.Plan interval)) (now (out .entry)) r (now (out .exit)) ⌝ }
 {
-    let refusal = sheet::asked(sheet, interval);
+    let refusal = questions::asked(sheet, interval);
     if refusal != 0 {
-        return lines::put(out, parts::alone(refusal));
+        return lines::put(out, command_lines::alone(refusal));
     }
     report::interval_text(sheet, interval, out)
 }
@@ -37,13 +35,16 @@ fn serve(command: Command, sheet: Sheet, out: &mut [u8]) -> Written
     ensures { λ r. ⌜ Put (Serves sheet command) (now (out .entry)) r (now (out .exit)) ⌝ }
 {
     match command {
-        Command::Bounds => lines::put(out, services::bounds(sheet)),
-        Command::Starts(interval) => lines::put(out, services::starts(sheet, interval)),
-        Command::Separations(interval) => lines::put(out, services::separations(sheet, interval)),
+        Command::Bounds => lines::put(out, command_lines::bounds(sheet)),
+        Command::Starts(interval) => lines::put(out, command_lines::starts(sheet, interval)),
+        Command::Separations(interval) => lines::put(
+            out,
+            command_lines::separations(sheet, interval),
+        ),
         Command::Plan(interval) => plan(sheet, interval, out),
         Command::Page(interval) => pages::first(sheet, interval, out),
-        Command::Order(interval, pair) => lines::put(out, services::order(sheet, interval, pair)),
-        Command::Check => lines::put(out, parts::alone(0)),
+        Command::Order(interval, pair) => lines::put(out, orders::order(sheet, interval, pair)),
+        Command::Check => lines::put(out, command_lines::alone(0)),
         Command::Write => writer::write(sheet, out),
     }
 }
@@ -53,9 +54,9 @@ fn refusal_lines(command: Command, refusal: usize, line: usize) -> Lines
     requires { ⌜ (refusal ≤ greatestNumber) × (line ≤ greatestNumber) ⌝ }
     ensures { λ r. ⌜ Shows r (refusalLines command refusal line) ⌝ }
 {
-    let alone = parts::alone(refusal);
+    let alone = command_lines::alone(refusal);
     match command {
-        Command::Check => lines::with(alone, text::count_line(text::LINE, line)),
+        Command::Check => lines::with(alone, text_line::count_line(text::LINE, line)),
         _ => alone,
     }
 }
@@ -91,7 +92,7 @@ pub fn page_of_plan(
     let read = reader::read(bytes);
     let refusal = read.answer;
     if refusal != 0 {
-        return lines::put(out, parts::alone(refusal));
+        return lines::put(out, command_lines::alone(refusal));
     }
     let sheet = read.sheet;
     pages::given(sheet, interval, starts, instances, out)

@@ -1,7 +1,6 @@
 // Pages of plans, or the lines of why there is none.
 ghost use Rattle.sheet.specs.Sheet.{InRange};
-ghost use Rattle.commands.specs.Prints.{Put, Serves, ServesPage};
-use crate::parts;
+ghost use Rattle.command_lines.specs.Prints.{Put, Serves, ServesPage};
 use sheet::Sheet;
 use text::Written;
 use words::Command;
@@ -20,10 +19,10 @@ pub fn given(
     let mut text = [0u8; page::ROOM];
     let written = page::page(sheet, interval, starts, instances, &mut text);
     if written.answer != 0 {
-        return lines::put(out, parts::alone(written.answer));
+        return lines::put(out, command_lines::alone(written.answer));
     }
     let count = written.count;
-    text::put_text(out, &text[..count])
+    text_line::put_text(out, &text[..count])
 }
 
 // The page of the first plan, or why there is none.
@@ -34,7 +33,10 @@ pub fn first(sheet: Sheet, interval: usize, out: &mut [u8]) -> Written
     let found = schedule::plan_at(sheet, interval);
     if found.answer != 0 {
         let edges = found.loop_edges;
-        return lines::put(out, parts::denied(found.answer, found.loop_length, edges));
+        return lines::put(
+            out,
+            command_lines::denied(found.answer, found.loop_length, edges),
+        );
     }
     let count = sheet.op_count;
     let starts = found.starts;

@@ -15,8 +15,8 @@ use Rattle.judge.specs.Answers.{JudgedAt}
 use Rattle.judge.specs.Bytes.{JudgeOf}
 use Rattle.report.specs.declared.PlanWritten.{PlanWritten}
 use Rattle.report.specs.PlanText.{PlanText}
-use Rattle.slot_order.specs.declared.SlotOrder.{SlotOrder}
-use Rattle.slot_order.specs.Answers.{SlotOrderAt}
+use Rattle.pair_order.specs.declared.SlotOrder.{SlotOrder}
+use Rattle.pair_order.specs.Answers.{SlotOrderAt}
 use Rattle.host.specs.declared.OrderAnswer.{OrderAnswer}
 
 -- least interval

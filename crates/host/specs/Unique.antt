@@ -8,7 +8,7 @@ use Rattle.sheet.specs.Questions.{One, is-one, asked-one}
 use Rattle.plan.specs.declared.IntervalAnswer.{IntervalAnswer}
 use Rattle.plan.specs.Unique.{least-unique}
 use Rattle.report.specs.PlanText.{once}
-use Rattle.slot_order.specs.Unique.{slot-order-unique}
+use Rattle.pair_order.specs.Unique.{slot-order-unique}
 use Rattle.page.specs.Unique.{page-unique}
 use Rattle.host.specs.declared.OrderAnswer.{OrderAnswer}
 use Rattle.host.specs.Calls.{LeastOf, unread, served, PlanTextOf, unread-text, served-text, SlotOrderOf, unread-order, served-order, textAnswer, orderAnswer, PageOf}

@@ -70,7 +70,7 @@ fn some_interval(sheet: Sheet, interval: usize) -> usize
     requires { ⌜ InRange sheet ⌝ }
     ensures { λ r. ⌜ SomeInterval sheet interval r ⌝ }
 {
-    if sheet::asked(sheet, interval) != 0 {
+    if questions::asked(sheet, interval) != 0 {
         return 1;
     }
     interval
@@ -87,7 +87,7 @@ fn plan_examined(sheet: Sheet, plan: PlanLines) -> Examined
         return unreadable(FIRST_AT + lesser(count, ops));
     }
     let interval = plan.interval;
-    if sheet::asked(sheet, interval) != 0 {
+    if questions::asked(sheet, interval) != 0 {
         return Examined {
             answer: NO_INTERVAL,
             line: INTERVAL_LINE,
@@ -118,7 +118,7 @@ fn tree_examined(sheet: Sheet, text: &[u8], at: usize, interval: usize) -> Exami
     if found.next < text.len() {
         return unreadable(found.line);
     }
-    if sheet::asked(sheet, interval) != 0 {
+    if questions::asked(sheet, interval) != 0 {
         return Examined {
             answer: NO_INTERVAL,
             line: INTERVAL_LINE,
@@ -169,7 +169,7 @@ fn text_examined(sheet: Sheet, text: &[u8]) -> Examined
 pub fn judge(sheet: Sheet, text: &[u8]) -> usize
     ensures { λ r. ⌜ JudgedAt sheet (now (text .entry)) r ⌝ }
 {
-    let refusal = sheet::answer(sheet);
+    let refusal = questions::answer(sheet);
     if refusal != 0 {
         return refusal;
     }
@@ -181,7 +181,7 @@ pub fn judge(sheet: Sheet, text: &[u8]) -> usize
 pub fn line_at_fault(sheet: Sheet, text: &[u8]) -> usize
     ensures { λ r. ⌜ FaultAt sheet (now (text .entry)) r ⌝ }
 {
-    let refusal = sheet::answer(sheet);
+    let refusal = questions::answer(sheet);
     if refusal != 0 {
         return 0;
     }

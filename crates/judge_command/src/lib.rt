@@ -37,6 +37,6 @@ pub fn answer(bytes: &[u8], given: &[u8], out: &mut [u8]) -> Written
     ensures { λ r. ⌜ Answered (now (bytes .entry)) (now (given .entry)) (now (out .entry)) r (now (out .exit)) ⌝ }
 {
     let found = examine(bytes, given);
-    let line = text::count_line(text::ANSWER, found.answer);
+    let line = text_line::count_line(text::ANSWER, found.answer);
     lines::put(out, lines::with(lines::none(), line))
 }

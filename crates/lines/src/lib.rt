@@ -72,7 +72,7 @@ fn text_length(ls: Lines) -> usize
     let n = line_count(ls);
     let mut total = 0;
     for i in 0..n {
-        total += text::line_length(ls.lines[i]);
+        total += text_line::line_length(ls.lines[i]);
     }
     total
 }
@@ -85,7 +85,7 @@ fn fill(out: &mut [u8], ls: Lines) -> usize
     let n = line_count(ls);
     let mut at = 0;
     for i in 0..n {
-        at += text::put_line(&mut out[at..], ls.lines[i]);
+        at += text_line::put_line(&mut out[at..], ls.lines[i]);
     }
     at
 }

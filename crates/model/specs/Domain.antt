@@ -5,7 +5,7 @@ use Prim.Native.Nat.{ℕ, _<_}
 use Rattle.sizes.specs.Sizes.{mostOperations}
 use Rattle.domain.specs.Domain.{rowOf}
 use Rattle.sheet.specs.declared.Sheet.{Sheet}
-use Rattle.rules.specs.Starts.{RowFor}
+use Rattle.start_rules.specs.Starts.{RowFor}
 
 -- each row has exactly the starts that its operation allows
 pub record DomainFor (s : Sheet) (L : ℕ) (ok : List (List Bool)) : Type 0 where

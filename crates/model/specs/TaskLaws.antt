@@ -13,7 +13,7 @@ use Rattle.laws.specs.Entry.{cell}
 use Rattle.dependence.specs.Graph as dependence
 use Rattle.dependence.specs.Rules.{Meets}
 use Rattle.dependence.specs.Answer.{Lags}
-use Rattle.dependence.specs.Lag.{lags-hold, lags-ask}
+use Rattle.lags.specs.Lag.{lags-hold, lags-ask}
 use Rattle.sheet.specs.declared.Sheet.{Sheet}
 use Rattle.sheet.specs.Sheet.{InRange, Interval, edgeAt, graphOf}
 use Rattle.sheet.specs.Facts.{ops-most, types-most, cap-most, instances-most, busy-some, busy-most}

@@ -10,7 +10,7 @@ pub fn allowed_domain(sheet: Sheet, interval: usize) -> [[bool; MOST_STARTS]; MO
 {
     let mut domain = [[false; MOST_STARTS]; MOST_OPERATIONS];
     for i in 0..MOST_OPERATIONS {
-        domain[i] = rules::allowed_starts(sheet, interval, i);
+        domain[i] = start_rules::allowed_starts(sheet, interval, i);
     }
     domain
 }

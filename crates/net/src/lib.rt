@@ -1,10 +1,10 @@
 // A net: numbered edges between operations, each with a weight of its own, and the earliest starts over a floor. This
 // is an inner layer of `dependence`, in a crate of its own so that each is checked in under a minute. Its one public
-// function, `settle`, has a `requires`. The only caller is `dependence` (`walks` has nets, and calls nothing here). A
-// net comes from `dependence::edge_totals::net_of` alone, whose contract gives `NetOk` and as many operations as the
+// function, `settle`, has a `requires`. The only callers are `constraints` and `lags` (`walks` has nets, and calls
+// nothing here). A net comes from `dependence::net_of` alone, whose contract gives `NetOk` and as many operations as the
 // graph has, which question 3 puts at 1 or more. `Below highestFloor floor` holds as the floor is all 0, or the highest
-// floor at one operation and 0 elsewhere (`lag_table::peak`), or passed `floor_ok` and then `arrays::cut`, which puts 0
-// past the operations.
+// floor at one operation and 0 elsewhere (`lags::peak`), or passed `floor_ok` and then `arrays::cut`, which puts 0 past
+// the operations.
 ghost use mathlib.Core.Path.{_≡_};
 ghost use Prim.Native.Nat.{_≤_};
 ghost use lib.IntN.{pos, _+ℤ_};

@@ -15,7 +15,7 @@ use Rattle.text.specs.Sizes.{fourDigits}
 use Rattle.text.specs.Lines.{Line, linesText}
 use Rattle.text.specs.Answers.{answerLine, intervalLine}
 use Rattle.scan.specs.Line.{fields, noMinus, lineOf, stripped}
-use Rattle.scan.specs.List.{listOf}
+use Rattle.scan_list.specs.List.{listOf}
 use Rattle.scan.specs.RoundTrip.{reads-line}
 use Rattle.plan_lines.specs.Lines.{firstAt}
 use Rattle.plan_lines.specs.Steps as plans
@@ -41,10 +41,9 @@ use Rattle.judge.specs.Lines.{denialLines}
 use Rattle.judge.specs.Steps.{has-tree}
 use Rattle.judge.specs.Theorems.{plan-passes}
 use Rattle.judge.specs.RoundTrip.{Shown, tree-passed}
-use Rattle.report.specs.Print.{intervalLines}
-use Rattle.report.specs.Places.{detail-5, detail-else}
-use Rattle.report.specs.PlanText.{planText}
-use Rattle.report.specs.Small.{interval-small, loop-edges-small}
+use Rattle.interval_lines.specs.IntervalLines.{intervalLines, planText}
+use Rattle.interval_lines.specs.Places.{detail-5, detail-else}
+use Rattle.interval_lines.specs.Small.{interval-small, loop-edges-small}
 use Rattle.own_answers.specs.OwnPlan.{long, own-plan}
 use Rattle.own_answers.specs.Refusals.{five-loop, six-accepted}
 

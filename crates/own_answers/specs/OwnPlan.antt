@@ -21,9 +21,8 @@ use Rattle.sheet.specs.Facts.{ops-most}
 use Rattle.plan.specs.declared.PlanAnswer.{PlanAnswer}
 use Rattle.plan.specs.Answers.{PlanAt}
 use Rattle.plan.specs.Exactly.{accepted-given}
-use Rattle.report.specs.Print.{detail, intervalLines}
-use Rattle.report.specs.PlanText.{planText}
-use Rattle.report.specs.Small.{SmallList, small}
+use Rattle.interval_lines.specs.IntervalLines.{detail, intervalLines, planText}
+use Rattle.interval_lines.specs.Small.{SmallList, small}
 
 -- one line for each operation is one for each start and its instance
 each-places : (n : ℕ) (ts us : List ℕ) → n ≤ length ts → n ≤ length us

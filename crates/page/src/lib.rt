@@ -6,7 +6,7 @@ ghost use lib.ListN.{length};
 ghost use Rattle.sizes.specs.Sizes.{mostOperations};
 ghost use Rattle.text.specs.Line.{refused};
 ghost use Rattle.page.specs.Answers.{fullTable, PageAt};
-use page_text::LINE_LENGTH;
+use page_writer::LINE_LENGTH;
 use placing_table::Placement;
 use placing_table::Table;
 use sheet::Sheet;
@@ -58,11 +58,11 @@ pub fn page(
 ) -> Written
     ensures { λ r. ⌜ PageAt sheet interval (now (starts .entry)) (now (instances .entry)) (now (out .entry)) (record { written = r; buffer = now (out .exit) }) ⌝ }
 {
-    let refusal = sheet::asked(sheet, interval);
+    let refusal = questions::asked(sheet, interval);
     if refusal != 0 {
         return refuse(refusal);
     }
-    if out.len() < page_text::page_length(sheet, interval) {
+    if out.len() < page_writer::page_length(sheet, interval) {
         return refuse(9);
     }
     let count = sheet.op_count;
@@ -76,7 +76,7 @@ pub fn page(
     if !placing_table::consistent(sheet, interval, table) {
         return refuse(10);
     }
-    let bytes = page_text::put_page(out, sheet, interval, table);
+    let bytes = page_writer::put_page(out, sheet, interval, table);
     Written {
         answer: 0,
         count: bytes,

@@ -14,7 +14,7 @@ pub fn put_at(out: &mut [u8], at: usize, bytes: &[u8]) -> usize
     requires { ⌜ at + length (now bytes) ≤ length (now out) ⌝ }
     ensures { λ r. ⌜ Pasted at (now (bytes .entry)) (now (out .entry)) (now (out .exit)) r ⌝ }
 {
-    let written = text::put_text(&mut out[at..], bytes);
+    let written = text_line::put_text(&mut out[at..], bytes);
     at + written.count
 }
 

@@ -59,7 +59,7 @@ pub fn new_table(sheet: Sheet, interval: usize) -> NewTable
         entries: [nothing; MOST_OPERATIONS],
     };
     NewTable {
-        answer: sheet::asked(sheet, interval),
+        answer: questions::asked(sheet, interval),
         table,
     }
 }
@@ -80,7 +80,7 @@ fn target_in_range(sheet: Sheet, op: usize, start: usize) -> bool
 fn asked(sheet: Sheet, interval: usize, table: Table, op: usize, start: usize) -> usize
     ensures { λ r. ⌜ AskedToPlace sheet interval table op start r ⌝ }
 {
-    let refusal = sheet::asked(sheet, interval);
+    let refusal = questions::asked(sheet, interval);
     if refusal != 0 {
         return refusal;
     }

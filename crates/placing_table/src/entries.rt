@@ -26,7 +26,7 @@ fn entry_allowed(sheet: Sheet, interval: usize, i: usize, p: Placement) -> bool
     if sheet.horizon <= p.start {
         return false;
     }
-    if !rules::holds_allowed(sheet, interval, i, p.start) {
+    if !start_rules::holds_allowed(sheet, interval, i, p.start) {
         return false;
     }
     rules::instance_allowed(sheet, i, p.instance)

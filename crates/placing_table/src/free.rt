@@ -66,7 +66,7 @@ pub fn is_free(
 ) -> bool
     ensures { λ r. ⌜ Says (Free sheet interval table op start instance) r ⌝ }
 {
-    if !rules::holds_allowed(sheet, interval, op, start) {
+    if !start_rules::holds_allowed(sheet, interval, op, start) {
         return false;
     }
     if !rules::instance_allowed(sheet, op, instance) {
@@ -79,7 +79,7 @@ pub fn is_free(
 fn room(sheet: Sheet, op: usize) -> usize
     ensures { λ r. ⌜ InRoom sheet op r ⌝ }
 {
-    let limit = rules::instances_of(sheet, op);
+    let limit = operations::instances_of(sheet, op);
     if limit == 0 {
         return 1;
     }

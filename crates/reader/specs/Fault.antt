@@ -5,7 +5,7 @@ use lib.Dec.{eqb}
 use lib.ListN.{length, getD}
 use Rattle.laws.specs.Count.{tally}
 use Rattle.sheet.specs.declared.Sheet.{Sheet}
-use Rattle.reader.specs.Found.{Found, found, refused}
+use Rattle.sheet_lines.specs.Found.{Found, found, refused}
 use Rattle.reader.specs.Read.{wholeFrom}
 
 -- the byte that ends a line

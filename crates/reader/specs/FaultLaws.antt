@@ -13,7 +13,7 @@ use Rattle.laws.specs.Count.{bit, bit-small, tally-none, tally-more}
 use Rattle.laws.specs.Tests.{by-test}
 use Rattle.sheet.specs.declared.Sheet.{Sheet}
 use Rattle.reader.specs.declared.ReadAnswer.{ReadAnswer}
-use Rattle.reader.specs.Found.{Found, found, refused}
+use Rattle.sheet_lines.specs.Found.{Found, found, refused}
 use Rattle.reader.specs.Read.{longestSheet, wholeFrom, readOf}
 use Rattle.reader.specs.Fault.{lineFeed, lineNumber, faultAt, faultOf}
 use Rattle.reader.specs.Refusals.{not-refused}

@@ -12,8 +12,8 @@ use Rattle.sheet.specs.declared.Operation.{Operation}
 use Rattle.sheet.specs.declared.ResourceType.{ResourceType}
 use Rattle.sheet.specs.Sheet.{noType, noOperation}
 use Rattle.reader.specs.declared.ReadAnswer.{ReadAnswer}
-use Rattle.reader.specs.Found.{Found, found, refused, andThen, lineFrom, sectionFrom, padded}
-use Rattle.reader.specs.Kinds.{horizonKind, capKind, typesKind, opsKind, edgesKind, typeKind, opKind, edgeKind}
+use Rattle.sheet_lines.specs.Found.{Found, found, refused, andThen, lineFrom, sectionFrom, padded}
+use Rattle.sheet_lines.specs.Kinds.{horizonKind, capKind, typesKind, opsKind, edgesKind, typeKind, opKind, edgeKind}
 
 -- the sheet with these numbers, and 0 past the types, operations and edges
 abbrev pub sheetOf : ℕ → ℕ → List ResourceType → List Operation → List Edge → Sheet

@@ -16,8 +16,8 @@ use Rattle.sheet.specs.Ranges as range
 use Rattle.sheet.specs.Answer.{numberAnswer, typeAnswer, opAnswer, edgeAnswer}
 use Rattle.scan.specs.Line.{onFields, lineOf, Fields, fields, bad}
 use Rattle.reader.specs.declared.ReadAnswer.{ReadAnswer}
-use Rattle.reader.specs.Found.{Found, found, refused, judged, andThen, Kind, lineFrom, linesFrom, sectionFrom}
-use Rattle.reader.specs.Kinds.{horizonKind, capKind, typesKind, opsKind, edgesKind, typeKind, opKind, edgeKind}
+use Rattle.sheet_lines.specs.Found.{Found, found, refused, judged, andThen, Kind, lineFrom, linesFrom, sectionFrom}
+use Rattle.sheet_lines.specs.Kinds.{horizonKind, capKind, typesKind, opsKind, edgesKind, typeKind, opKind, edgeKind}
 use Rattle.reader.specs.Read.{longestSheet, sheetFrom, toTheEnd, wholeFrom, readOf}
 use Rattle.reader.specs.Whole.{read-of}
 

@@ -14,12 +14,18 @@ use Rattle.sheet.specs.declared.Operation.{Operation}
 use Rattle.sheet.specs.declared.ResourceType.{ResourceType}
 use Rattle.sheet.specs.Sheet.{noType, noOperation}
 use Rattle.sheet.specs.declared.Sheet.{Sheet}
+use Rattle.reader.specs.declared.ReadAnswer.{ReadAnswer}
 use Rattle.reader.specs.declared.SheetRead.{SheetRead}
-use Rattle.reader.specs.Found.{Found, found, refused, lineFrom, sectionFrom}
-use Rattle.reader.specs.Seen.{Filled, WholeRead}
-use Rattle.reader.specs.Kinds.{horizonKind, capKind, typesKind, opsKind, edgesKind, typeKind, opKind, edgeKind}
+use Rattle.sheet_lines.specs.Found.{Found, found, refused, lineFrom, sectionFrom}
+use Rattle.sheet_lines.specs.Seen.{Reads, Filled}
+use Rattle.sheet_lines.specs.Kinds.{horizonKind, capKind, typesKind, opsKind, edgesKind, typeKind, opKind, edgeKind}
 use Rattle.reader.specs.Read.{longestSheet, sheetOf, sheetFrom, wholeFrom, noSheet, answered, readOf}
-use Rattle.reader.specs.Steps.{seen-zero, seen-other}
+use Rattle.sheet_lines.specs.Steps.{seen-zero, seen-other}
+
+-- what was read of all the bytes: its answer and sheet are what reading gives
+pub record WholeRead (s : List ℕ) (r : SheetRead) : Type 0 where
+  pub reads : Reads s (r .answer) (r .sheet) (r .next) (wholeFrom s)
+  pub gives : _≡_ {A = ReadAnswer} (record { answer = r .answer; sheet = r .sheet }) (readOf s)
 
 pub too-long : (bs : List ℕ) → longestSheet < length bs → wholeFrom bs ≡ refused 1 (drop longestSheet bs)
 unfolding wholeFrom

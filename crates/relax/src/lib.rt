@@ -1,19 +1,13 @@
-// Tasks that ask less than a task does: at a coarser interval, and of one cluster alone, wherever it stands. Where such
-// a one has no plan the task has none, and it is found out sooner.
-// An inner layer, a crate of its own for the check's time: its functions ask for a task whose numbers are within its
-// arrays (`TaskOk`); `coarse` for an interval that divides the task's, `cluster` and `anchored` for an operation of it.
+// Tasks that ask less than a task does: at a coarser interval, and of one cluster alone, wherever it stands (`anchor`).
+// Where such a one has no plan the task has none, and it is found out sooner.
+// An inner layer, a crate of its own for the check's time: `coarse` asks for a task whose numbers are within its arrays
+// (`TaskOk`), and for an interval that divides the task's.
 // Caller: `search`, with the task of schedule::plan_at, when it has not answered after some steps.
 ghost use mathlib.Core.Path.{_≡_};
 ghost use Prim.Native.Nat.{_%_, _≤_, _<_};
 ghost use Rattle.sizes.specs.Sizes.{mostOperations, mostIntervals};
 ghost use Rattle.task.specs.Plan.{TaskOk};
 ghost use Rattle.relax.specs.Relax.{Relaxed, Limit, Limits};
-
-mod anchor;
-
-pub use anchor::anchor_rows;
-pub use anchor::anchored;
-pub use anchor::cluster;
 use sizes::MOST_OPERATIONS;
 use sizes::MOST_TYPES;
 use task::Task;

@@ -17,9 +17,9 @@ use Rattle.text.specs.Bounds.{Within, line-most, numberMost, number-most, one-m
 use Rattle.text.specs.Answers.{answerLine, intervalLine, loopLine, atLine, refusalText}
 use Rattle.sheet.specs.declared.Sheet.{Sheet}
 use Rattle.plan.specs.declared.PlanAnswer.{PlanAnswer}
-use Rattle.report.specs.Print.{detail, intervalLines}
-use Rattle.report.specs.Small.{SmallList, SmallAnswer}
-use Rattle.report.specs.Places.{detail-0, detail-5, detail-else}
+use Rattle.interval_lines.specs.IntervalLines.{detail, intervalLines}
+use Rattle.interval_lines.specs.Small.{SmallList, SmallAnswer}
+use Rattle.interval_lines.specs.Places.{detail-0, detail-5, detail-else}
 
 -- the line `answer=`
 abbrev pub answerMost : ℕ

@@ -17,8 +17,8 @@ use Rattle.sheet.specs.Entries.{SameSheet}
 use Rattle.plan.specs.declared.PlanAnswer.{PlanAnswer}
 use Rattle.plan.specs.Entries.{plan-at-same}
 use Rattle.report.specs.declared.PlanWritten.{PlanWritten}
-use Rattle.report.specs.Print.{detail, intervalLines}
-use Rattle.report.specs.PlanText.{planText, edgeless, PlanText, refusal, text}
+use Rattle.interval_lines.specs.IntervalLines.{detail, intervalLines, planText}
+use Rattle.report.specs.PlanText.{edgeless, PlanText, refusal, text}
 
 module _ {s s' : Sheet} (e : SameSheet s s') where
   plan-lines-same : (L : ℕ) (a : PlanAnswer) → planText s L a ≡ planText s' L a

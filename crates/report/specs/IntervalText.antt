@@ -10,7 +10,7 @@ use Rattle.sheet.specs.Questions.{AskedAt, Accepted, is-one, at-interval-one, g
 use Rattle.plan.specs.declared.PlanAnswer.{PlanAnswer}
 use Rattle.plan.specs.Answers.{PlanAt}
 use Rattle.plan.specs.Unique.{plan-at-unique}
-use Rattle.report.specs.PlanText.{planText}
+use Rattle.interval_lines.specs.IntervalLines.{planText}
 
 -- the sheet's refusal or 4, and the buffer as it was; else the lines that leastplan prints for that interval where the
 -- whole of them fits, or 9

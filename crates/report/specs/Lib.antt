@@ -4,7 +4,5 @@ pub mod PlanText
 pub mod IntervalText
 -- ---- laws
 pub mod Printing
-pub mod Small
-pub mod Places
 pub mod Bounds
 pub mod Entries

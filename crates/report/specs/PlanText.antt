@@ -6,17 +6,12 @@ use Rattle.laws.specs.Entry.{zeros}
 use Rattle.text.specs.declared.Written.{Written}
 use Rattle.text.specs.Text.{bufferOf}
 use Rattle.text.specs.Line.{writtenOf}
-use Rattle.text.specs.Lines.{linesText}
 use Rattle.sheet.specs.declared.Sheet.{Sheet}
 use Rattle.plan.specs.declared.PlanAnswer.{PlanAnswer}
 use Rattle.plan.specs.Answers.{PlanAt}
 use Rattle.plan.specs.Unique.{plan-at-unique}
 use Rattle.report.specs.declared.PlanWritten.{PlanWritten}
-use Rattle.report.specs.Print.{intervalLines}
-
--- the text of a plan: the lines that leastplan prints for that interval
-abbrev pub planText : Sheet → ℕ → PlanAnswer → List ℕ
-planText s L a = linesText (intervalLines s L a)
+use Rattle.interval_lines.specs.IntervalLines.{planText}
 
 -- the number of the plan's refusal and no bytes; for 5 with the edges
 abbrev pub refusedBy : PlanAnswer → PlanWritten

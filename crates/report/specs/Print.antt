@@ -1,31 +1,16 @@
--- What leastplan prints: the lines of one interval, and of a whole run; and where it goes.
+-- What leastplan prints: the lines of a whole run; and where it goes.
 use Prim.Native.Nat.{ℕ, suc, _<_, _≤_}
 use mathlib.Core.Path.{_≡_}
-use mathlib.Core.Bool.{cond}
 use mathlib.Core.List.{List, [], _∷_, _++_}
-use lib.Dec.{eqb}
-use lib.ListN.{take}
-use Rattle.laws.specs.Entry.{vec}
-use Rattle.laws.specs.Each.{each}
 use Rattle.text.specs.declared.Written.{Written}
 use Rattle.text.specs.Lines.{Line, linesText}
-use Rattle.text.specs.Answers.{answerLine, intervalLine, loopLine, atLine}
+use Rattle.text.specs.Answers.{answerLine}
 use Rattle.text.specs.Put.{Put}
 use Rattle.sheet.specs.declared.Sheet.{Sheet}
 use Rattle.reader.specs.Read.{readOf}
 use Rattle.plan.specs.declared.PlanAnswer.{PlanAnswer}
 use Rattle.plan.specs.Answers.{PlanAt}
-
--- for 5 the loop, for 0 one line per operation
-unfoldable pub detail : Sheet → PlanAnswer → List Line
-detail s a =
-    cond (eqb (a .answer) 0)
-    (each (s .«op_count») (λ i. atLine (vec (a .starts) i) (vec (a .instances) i)))
-    (cond (eqb (a .answer) 5) (loopLine (take (a .«loop_length») (a .«loop_edges»)) ∷ []) [])
-
--- the lines of one interval
-unfoldable pub intervalLines : Sheet → ℕ → PlanAnswer → List Line
-intervalLines s L a = answerLine (a .answer) ∷ intervalLine L ∷ detail s a
+use Rattle.interval_lines.specs.IntervalLines.{intervalLines}
 
 -- the lines of the intervals from L up: it stops after 0, and ends with 7 if none has a plan
 pub data Run (s : Sheet) : ℕ → List Line → Type 0 where

@@ -19,7 +19,8 @@ use Rattle.sheet.specs.declared.Sheet.{Sheet}
 use Rattle.plan.specs.declared.PlanAnswer.{PlanAnswer}
 use Rattle.plan.specs.Answers.{PlanAt}
 use Rattle.plan.specs.Unique.{plan-at-unique}
-use Rattle.report.specs.Print.{intervalLines, Run, none, stops, goes-on, Printed, refused, read, PrintedText, text, room, Reported}
+use Rattle.interval_lines.specs.IntervalLines.{intervalLines}
+use Rattle.report.specs.Print.{Run, none, stops, goes-on, Printed, refused, read, PrintedText, text, room, Reported}
 
 pub run-unique : {s : Sheet} {L : ℕ} {ls ms : List Line} → Run s L ls → Run s L ms → ls ≡ ms
 run-unique (none a) (none b) = refl

@@ -2,23 +2,19 @@
 ghost use mathlib.Core.Path.{_≡_};
 ghost use Prim.Native.Nat.{_≤_};
 ghost use lib.ListN.{length};
-ghost use Rattle.text.specs.Text.{over, bufferOf};
-ghost use Rattle.text.specs.Line.{writtenOf};
+ghost use Rattle.text.specs.Text.{over};
 ghost use Rattle.text.specs.Sizes.{threeDigits};
 ghost use Rattle.text.specs.Answers.{refusalText};
 ghost use Rattle.sheet.specs.Sheet.{InRange};
 ghost use Rattle.report.specs.Print.{Run, Printed, room, Reported};
 ghost use Rattle.report.specs.Bounds.{answerMost};
-ghost use Rattle.report.specs.Small.{SmallAnswer};
-ghost use Rattle.report.specs.PlanText.{PlanText, planText};
+ghost use Rattle.report.specs.PlanText.{PlanText};
 ghost use Rattle.report.specs.IntervalText.{IntervalText};
 ghost use Rattle.report.specs.Printing.{Front};
-use plan::PlanAnswer;
+use interval_lines::put_interval;
 use sheet::Sheet;
 use sizes::MOST_OPERATIONS;
 use text::Written;
-
-mod interval_lines; // interval_lines.rt: the lines of one interval, by their places
 
 // Room for whatever leastplan prints.
 pub const ROOM: usize = 8192;
@@ -30,22 +26,6 @@ pub struct PlanWritten {
     pub count: usize,
     pub loop_length: usize,
     pub loop_edges: [usize; MOST_OPERATIONS],
-}
-
-// The lines of one interval at the front of `out` and their count of bytes; 9 where they do not fit, and then `out`
-// stays as it was.
-fn put_interval(out: &mut [u8], sheet: Sheet, interval: usize, a: PlanAnswer) -> Written
-    requires { ⌜ SmallAnswer sheet interval a ⌝ }
-    ensures { λ r. ⌜ (r ≡ writtenOf (planText sheet interval a) (now (out .entry))) × (now (out .exit) ≡ bufferOf (planText sheet interval a) (now (out .entry))) ⌝ }
-{
-    if out.len() < interval_lines::text_length(sheet, interval, a) {
-        return Written {
-            answer: 9,
-            count: 0,
-        };
-    }
-    let count = interval_lines::fill(out, sheet, interval, a);
-    Written { answer: 0, count }
 }
 
 // The plan's text at the front of `out` and its count of bytes, or why there is none: the refusal of the plan at that
@@ -78,7 +58,7 @@ pub fn plan_text(sheet: Sheet, interval: usize, out: &mut [u8]) -> PlanWritten
 pub fn interval_text(sheet: Sheet, interval: usize, out: &mut [u8]) -> Written
     ensures { λ r. ⌜ IntervalText sheet interval (now (out .entry)) r (now (out .exit)) ⌝ }
 {
-    let refusal = sheet::asked(sheet, interval);
+    let refusal = questions::asked(sheet, interval);
     if refusal != 0 {
         return Written {
             answer: refusal,
@@ -95,7 +75,7 @@ fn put_answer(out: &mut [u8], answer: usize) -> usize
     ensures { λ r. ⌜ r ≡ length (refusalText answer) ⌝ }
     ensures { λ r. ⌜ now (out .exit) ≡ over (refusalText answer) (now (out .entry)) ⌝ }
 {
-    text::put_line(out, text::count_line(text::ANSWER, answer))
+    text_line::put_line(out, text_line::count_line(text::ANSWER, answer))
 }
 
 // The intervals from 1 up, until one has a plan.
@@ -139,5 +119,5 @@ pub fn report(bytes: &[u8], out: &mut [u8]) -> Written
 {
     let mut text = [0u8; ROOM];
     let count = print(&mut text, bytes);
-    text::put_text(out, &text[..count])
+    text_line::put_text(out, &text[..count])
 }

@@ -15,8 +15,8 @@ use Rattle.scan.specs.Values.{plain-nat}
 use Rattle.sheet.specs.Ranges as range
 use Rattle.sheet.specs.Table.{range-short, inside-short}
 use Rattle.sheet.specs.AnswerLaws.{number-judged, type-judged, op-judged, edge-judged}
-use Rattle.reader.specs.Found.{Kind}
-use Rattle.reader.specs.Kinds.{numberKind, typeKind, opKind, edgeKind}
+use Rattle.sheet_lines.specs.Found.{Kind}
+use Rattle.sheet_lines.specs.Kinds.{numberKind, typeKind, opKind, edgeKind}
 
 -- entry and numbers of a kind of line give each other back, and an entry that answers 0 has numbers that a line can
 -- have

@@ -9,8 +9,8 @@ use Rattle.text.specs.Text.{lineText}
 use Rattle.scan.specs.Line.{Fields, fields, bad, lineOf}
 use Rattle.scan.specs.RoundTrip.{reads-line, line-text}
 use Rattle.text.specs.Lines.{Line, linesText}
-use Rattle.reader.specs.Found.{Found, found, refused, Kind, lineFrom, linesFrom, sectionFrom}
-use Rattle.reader.specs.Steps.{line-in, line-inside, judged-found, no-found}
+use Rattle.sheet_lines.specs.Found.{Found, found, refused, Kind, lineFrom, linesFrom, sectionFrom}
+use Rattle.sheet_lines.specs.Steps.{line-in, line-inside, judged-found, no-found}
 use Rattle.round_trip.specs.All.{All}
 use Rattle.round_trip.specs.Lawful.{Lawful}
 

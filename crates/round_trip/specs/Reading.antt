@@ -9,7 +9,7 @@ use Rattle.sheet.specs.declared.Sheet.{Sheet}
 use Rattle.sheet.specs.Sheet.{InRange}
 use Rattle.sheet.specs.AnswerLaws.{number-judged, type-judged, op-judged, edge-judged}
 use Rattle.reader.specs.declared.ReadAnswer.{ReadAnswer}
-use Rattle.reader.specs.Found.{Found, found, refused}
+use Rattle.sheet_lines.specs.Found.{Found, found, refused}
 use Rattle.reader.specs.Read.{wholeFrom, answered, readOf}
 use Rattle.reader.specs.Refusals.{OnRefusal, Answers, refusal-holds}
 use Rattle.round_trip.specs.RoundTrip.{only-text}

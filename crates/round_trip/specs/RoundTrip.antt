@@ -24,11 +24,11 @@ use Rattle.sheet.specs.Ranges as range
 use Rattle.sheet.specs.Sheet.{noType, noOperation, TypeInRange, OpInRange, NonEmptyWindow, EdgeInRange, InRange, Arrays}
 use Rattle.sheet.specs.Text.{typeLine, opLine, edgeLine, sheetLines, sheetText}
 use Rattle.reader.specs.declared.ReadAnswer.{ReadAnswer}
-use Rattle.reader.specs.Found.{Found, found, refused, Kind, lineFrom, sectionFrom, padded}
-use Rattle.reader.specs.Kinds.{horizonKind, capKind, typesKind, opsKind, edgesKind, typeKind, opKind, edgeKind}
+use Rattle.sheet_lines.specs.Found.{Found, found, refused, Kind, lineFrom, sectionFrom, padded}
+use Rattle.sheet_lines.specs.Kinds.{horizonKind, capKind, typesKind, opsKind, edgesKind, typeKind, opKind, edgeKind}
 use Rattle.reader.specs.Read.{longestSheet, sheetOf, accepted, readOf}
 use Rattle.sheet.specs.AnswerLaws.{number-judged, type-judged, op-judged, edge-judged}
-use Rattle.reader.specs.Steps.{line-inside}
+use Rattle.sheet_lines.specs.Steps.{line-inside}
 use Rattle.reader.specs.Refusals.{not-refused}
 use Rattle.reader.specs.Whole.{too-long, stops-horizon, stops-cap, stops-types, stops-ops, stops-edges, whole, something-more, read-of}
 use Rattle.round_trip.specs.Accepted.{trimmed, Accepted}

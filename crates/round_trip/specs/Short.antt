@@ -9,7 +9,7 @@ use lib.IntN.{ℤ}
 use lib.ListN.{length}
 use Rattle.text.specs.Bounds.{Within, signed-most, line-most, cons-length, nil-length}
 use Rattle.scan.specs.RoundTrip.{Writable}
-use Rattle.reader.specs.Found.{Kind}
+use Rattle.sheet_lines.specs.Found.{Kind}
 use Rattle.round_trip.specs.Lawful.{Lawful}
 use Rattle.round_trip.specs.Lines.{entryLine, entryText, entriesText, AllInside}
 

@@ -1,71 +1,14 @@
-// Tests of a plan's rules for one and for two operations: starts, instances, rivals, slots. Any operation number may be
-// asked about. Each rule is decided here alone: an operation's own start in starts.rt, and there what holding an
-// instance asks of it; its own instance in `instance_allowed`; two rivals on one instance in `overlap`.
+// Tests of a plan's rules for one and for two operations: instances, rivals, slots. Any operation number may be asked
+// about. Each rule is decided once: an operation's own instance in `instance_allowed`, two rivals on one instance in
+// `overlap`; an operation's own start, and what holding an instance asks of it, in the crate `start_rules`.
 ghost use mathlib.Core.Path.{_≡_};
-ghost use lib.ListN.{getD};
 ghost use Rattle.laws.specs.Says.{Says};
-ghost use Rattle.sheet.specs.Sheet.{noType, noOperation, opAt, typeOf};
+ghost use Rattle.sheet.specs.Sheet.{typeOf};
 ghost use Rattle.plan.specs.Rules.{InstanceAllowed, Rivals, Overlap, slot};
-
-mod starts;
-
-use sheet::NO_OPERATION;
-use sheet::NO_TYPE;
-use sheet::Operation;
-use sheet::ResourceType;
+use operations::instances_of;
+use operations::resource_of;
+use operations::type_of;
 use sheet::Sheet;
-use sizes::MOST_OPERATIONS;
-use sizes::MOST_TYPES;
-pub use starts::allowed_starts;
-pub use starts::holds_allowed;
-
-// An operation of an array with its numbers; past the array they are 0. It takes the array alone, since a sheet by value
-// is copied.
-fn operation_in(ops: [Operation; MOST_OPERATIONS], op: usize) -> Operation
-    ensures { λ r. ⌜ r ≡ getD ops op noOperation ⌝ }
-{
-    if MOST_OPERATIONS <= op {
-        return NO_OPERATION;
-    }
-    ops[op]
-}
-
-// A type of an array with its numbers; past the array they are 0.
-fn type_in(types: [ResourceType; MOST_TYPES], resource: usize) -> ResourceType
-    ensures { λ r. ⌜ r ≡ getD types resource noType ⌝ }
-{
-    if MOST_TYPES <= resource {
-        return NO_TYPE;
-    }
-    types[resource]
-}
-
-// The type of an operation; past the array it is 0.
-pub fn resource_of(sheet: Sheet, op: usize) -> usize
-    ensures { λ r. ⌜ r ≡ opAt sheet op .resource ⌝ }
-{
-    let ops = sheet.ops;
-    let operation = operation_in(ops, op);
-    operation.resource
-}
-
-// The type of an operation with its numbers; past the array of types they are 0.
-fn type_of(sheet: Sheet, op: usize) -> ResourceType
-    ensures { λ r. ⌜ r ≡ typeOf sheet op ⌝ }
-{
-    let ops = sheet.ops;
-    let operation = operation_in(ops, op);
-    let types = sheet.types;
-    type_in(types, operation.resource)
-}
-
-// The instances of an operation's type; 0 is unlimited.
-pub fn instances_of(sheet: Sheet, op: usize) -> usize
-    ensures { λ r. ⌜ r ≡ typeOf sheet op .instances ⌝ }
-{
-    let found = type_of(sheet, op);
-    found.instances
-}
 
 // Whether an operation may have an instance: one of its type's, or 0 where the type is unlimited.
 pub fn instance_allowed(sheet: Sheet, op: usize, instance: usize) -> bool

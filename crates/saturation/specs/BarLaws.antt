@@ -17,8 +17,8 @@ use Rattle.laws.specs.Count.{tally, tally-some, tally-le, tally-lt, tally-cover
 use Rattle.domain.specs.Domain.{has}
 use Rattle.held_slots.specs.Held.{off}
 use Rattle.held_slots.specs.Seated.{nearW}
-use Rattle.saturation.specs.SlotLaws.{off-slot, off-later, slot-small}
-use Rattle.saturation.specs.Saturation.{slotAt, insideB, Room, Fits, Barred, Widened, Raised, RaiseOne}
+use Rattle.saturation_slots.specs.SlotLaws.{off-slot, off-later, slot-small}
+use Rattle.saturation_slots.specs.Saturation.{slotAt, insideB, Room, Fits, Barred, Widened, Raised, RaiseOne}
 
 -- the same in the midst of it: the stretch of w slots, and of those that are covered, takes at most cap starts
 pub record Caps (n : ℕ) (ty : ℕ → ℕ) (l a k r s : ℕ) (used : List Bool) (reach : List ℕ) (w covered cap : ℕ) (bar : List ℕ) : Type 0 where

@@ -1,4 +1,1 @@
-pub mod Saturation
-pub mod SlotLaws
 pub mod BarLaws
-pub mod TrimLaws

@@ -6,12 +6,12 @@ ghost use Prim.Native.Nat.{ℕ, _+_, _*_, _≤_, _<_};
 ghost use Rattle.sizes.specs.Sizes.{mostOperations, mostBusy, mostIntervals};
 ghost use Rattle.laws.specs.Entry.{vec};
 ghost use Rattle.laws.specs.Count.{tally};
-ghost use Rattle.saturation.specs.Saturation.{insideB, insideBit, CaseOk, BarredIn, Widened, Raised, RaiseOne};
-use crate::Case;
-use crate::slots::Slots;
-use crate::slots::slot_at;
-use crate::touches::Touches;
-use crate::touches::more;
+ghost use Rattle.saturation_slots.specs.Saturation.{insideB, insideBit, CaseOk, BarredIn, Widened, Raised, RaiseOne};
+use saturation_slots::Case;
+use saturation_slots::Slots;
+use saturation_slots::Touches;
+use saturation_slots::more;
+use saturation_slots::slot_at;
 use sizes::MOST_INTERVALS;
 use sizes::MOST_OPERATIONS;
 

@@ -3,45 +3,32 @@
 // An inner layer, a crate of its own for the check's time: `saturation` asks for a task whose numbers are within its
 // arrays (`TaskOk`).
 // Caller: `narrow`, with a task of which its own caller proves `TaskOk`.
-ghost use Prim.Native.Nat.{ℕ, _+_, _≤_, _<_};
+ghost use Prim.Native.Nat.{_≤_, _<_};
 ghost use Rattle.sizes.specs.Sizes.{mostOperations, mostTypes, mostIntervals};
 ghost use Rattle.laws.specs.Entry.{vec};
 ghost use Rattle.domain.specs.Domain.{Keeps};
 ghost use Rattle.task.specs.Plan.{TaskOk, PlanOf, instancesOf, typeOf};
-ghost use Rattle.saturation.specs.Saturation.{CaseOk, Slotted, SlotCut, Crowded};
+ghost use Rattle.saturation_slots.specs.Saturation.{CaseOk, Slotted, SlotCut, Crowded};
 
 mod bars;
-mod slots;
-mod touches;
-mod trims;
 
 use bars::bars;
 use domain::Domain;
+use saturation_slots::Case;
+use saturation_slots::SlotRows;
+use saturation_slots::Slots;
+use saturation_slots::Touches;
+use saturation_slots::forget;
+use saturation_slots::reach_zero;
+use saturation_slots::slot_rows;
+use saturation_slots::stepped;
+use saturation_slots::touches;
+use saturation_slots::used_slots;
+use saturation_trims::drained;
 use sizes::MOST_OPERATIONS;
 use sizes::MOST_STARTS;
 use sizes::MOST_TYPES;
-use slots::SlotRows;
-use slots::Slots;
-use slots::reach_zero;
-use slots::slot_rows;
-use slots::stepped;
-use slots::used_slots;
 use task::Task;
-use touches::Touches;
-use touches::forget;
-use touches::touches;
-use trims::drained;
-
-// One type of a task: so many of its operations (`most`) are of the type `kind`, on its instances, which stay busy for
-// some slots of the interval.
-struct Case {
-    ops: usize,
-    interval: usize,
-    instances: usize,
-    busy: usize,
-    most: usize,
-    kind: usize,
-}
 
 // The stretches from slot s on: whether more must be inside one than it takes; else without the starts that they rule
 // out.

@@ -19,12 +19,12 @@ use Rattle.text.specs.Sizes.{fourDigits}
 use Rattle.laws.specs.Store.{store}
 use Rattle.laws.specs.Z.{true-false}
 use Rattle.text.specs.Text.{endOf}
-use Rattle.scan.specs.Number.{int, none, classOf, number, signedNumber, wholeOf}
+use Rattle.scan_number.specs.Number.{int, none, classOf, number, signedNumber, wholeOf}
 use Rattle.scan.specs.Line.{mostNumbers, Rest, after, missing, stripped, fieldOf, fields, bad, fieldsFrom, lineOf, dueLine, seenPlace, withinPlace, zeros, LineFits}
 use Rattle.scan.specs.declared.Place.{Place}
 use Rattle.scan.specs.declared.Place.the-variants.{After, Missing}
-use Rattle.scan.proofs.Class as T
-use Rattle.scan.proofs.Digits.{front}
+use Rattle.scan_number.proofs.Class as T
+use Rattle.scan_number.proofs.Digits.{front}
 
 -- ---- a number and the byte that ends it
 

@@ -1,4 +1,1 @@
-mod Digits
-mod Signs
-mod Fields
-mod Lists
+pub mod Fields

@@ -8,7 +8,7 @@ use lib.IntN.{ℤ, pos, natAbs}
 use lib.ListN.{length, drop, take, getD, replicate}
 use Rattle.text.specs.Sizes.{fourDigits}
 use Rattle.text.specs.Text.{endOf}
-use Rattle.scan.specs.Number.{Signed, int, none, onInt, wholeOf}
+use Rattle.scan_number.specs.Number.{Signed, int, none, onInt, wholeOf}
 use Rattle.scan.specs.declared.Line.{Line}
 use Rattle.scan.specs.declared.Place.{Place}
 use Rattle.scan.specs.declared.Place.the-variants.{After, Missing}

@@ -12,12 +12,12 @@ use borrow.Author.Tests.{eq-eqb, ne-eqb, eqb-true, eqb-false}
 use Rattle.text.specs.Sizes.{fourDigits}
 use Rattle.laws.specs.Z.{true-false}
 use Rattle.text.specs.Text.{digits, signedText, endOf, joined, lineText}
-use Rattle.scan.specs.Number.{Num, value, malformed, classOf, number, Signed, int, none, signedNumber, wholeOf}
+use Rattle.scan_number.specs.Number.{Num, value, malformed, classOf, number, Signed, int, none, signedNumber, wholeOf}
 use Rattle.scan.specs.Line.{Rest, after, missing, stripped, fieldOf, fields, bad, fieldsFrom, lineOf}
 use Rattle.laws.specs.Tests.{by-test}
 use Rattle.text.specs.Signed.{minus-text}
-use Rattle.scan.specs.Digits.{Ends, no-value, reads-digits, canonical}
-use Rattle.scan.specs.declared.Class.the-variants.{Digit}
+use Rattle.scan_number.specs.Digits.{Ends, no-value, reads-digits, canonical}
+use Rattle.scan_number.specs.declared.Class.the-variants.{Digit}
 
 -- ---- the numbers that a line can have
 

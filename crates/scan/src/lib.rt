@@ -1,153 +1,23 @@
 // Reads one line of text: a key with its equals sign, whole numbers split by single commas, and a line feed.
 ghost use mathlib.Core.Path.{_≡_};
 ghost use mathlib.Core.List.{[]};
-ghost use Prim.Native.Nat.{_+_, _-_, _≤_, _<_};
+ghost use Prim.Native.Nat.{_≤_};
 ghost use lib.Dec.{eqb};
 ghost use lib.ListN.{length, drop};
-ghost use Rattle.scan.specs.Number.{classOf, number, moreDigits, seen, within, signedOf, signedNumber, wholeOf, seenWhole, withinWhole};
+ghost use Rattle.scan_number.specs.Number.{seenWhole, withinWhole};
 ghost use Rattle.scan.specs.Line.{mostNumbers, stripped, seenPlace, withinPlace, fieldOf, fieldsFrom, dueLine, seenLine, LineFits};
 ghost use Rattle.scan.specs.Plain.{plainLine, seenPlain, PlainFits};
-ghost use Rattle.text.specs.Sizes.{fourDigits};
 ghost use Rattle.text.specs.Text.{endOf};
-
-mod list; // list.rt: a line with any count of numbers up to a given one
-
-pub use list::Items;
-pub use list::MOST_ITEMS;
-pub use list::read_list;
+use scan_number::Class;
+use scan_number::Whole;
+use scan_number::classify;
+use scan_number::read_whole;
 
 // The most numbers that a line may have.
 const MOST_NUMBERS: usize = 8;
 
 // The place of no number, for a line of which none may carry a minus.
 pub const NO_MINUS: usize = MOST_NUMBERS;
-
-// The greatest number of three digits.
-const THREE_DIGITS: u32 = 999;
-
-// What a byte after the equals sign is.
-pub enum Class {
-    Minus,
-    Digit(u8),
-    Comma,
-    LineFeed,
-    Other,
-}
-
-pub fn classify(b: u8) -> Class
-    ensures { λ r. ⌜ r ≡ classOf b ⌝ }
-{
-    match b {
-        b'-' => Class::Minus,
-        b'0'..=b'9' => Class::Digit(b - 48),
-        b',' => Class::Comma,
-        b'\n' => Class::LineFeed,
-        _ => Class::Other,
-    }
-}
-
-// A number without a sign and the place after it, or no number.
-enum Number {
-    Value(u32, usize),
-    Malformed,
-}
-
-// The rest of a number whose digits so far stand for `first`, from `at`: four digits at most, and none after a leading
-// 0.
-fn more_digits(s: &[u8], at: usize, first: u32) -> Number
-    requires { ⌜ (first ≤ 9) × (at ≤ length (now s)) ⌝ }
-    ensures { λ r. ⌜ seen (now (s .entry)) r ≡ moreDigits first (drop at (now (s .entry))) ⌝ }
-    ensures { λ r. ⌜ within (now (s .entry)) r ⌝ }
-{
-    let mut v = first;
-    let mut i = at;
-    while i < s.len() {
-        let b = s[i];
-        match classify(b) {
-            Class::Digit(d) => {
-                if v == 0 {
-                    return Number::Malformed;
-                }
-                if THREE_DIGITS < v {
-                    return Number::Malformed;
-                }
-                v = v * 10 + (d as u32);
-            }
-            _ => {
-                return Number::Value(v, i);
-            }
-        }
-        i += 1;
-    }
-    Number::Value(v, i)
-}
-
-// The number without a sign at `at`.
-fn read_number(s: &[u8], at: usize) -> Number
-    ensures { λ r. ⌜ seen (now (s .entry)) r ≡ number (drop at (now (s .entry))) ⌝ }
-    ensures { λ r. ⌜ within (now (s .entry)) r ⌝ }
-{
-    if s.len() <= at {
-        return Number::Malformed;
-    }
-    let b = s[at];
-    match classify(b) {
-        Class::Digit(d) => more_digits(s, at + 1, d as u32),
-        _ => Number::Malformed,
-    }
-}
-
-// n, or -n.
-fn with_sign(negative: bool, n: u32) -> i32
-    requires { ⌜ n ≤ fourDigits ⌝ }
-    ensures { λ r. ⌜ r ≡ signedOf negative n ⌝ }
-{
-    let v = n as i32;
-    if negative {
-        return -v;
-    }
-    v
-}
-
-// A whole number and the place after it, or none.
-enum Whole {
-    Int(i32, usize),
-    None,
-}
-
-// The number at `at` with the sign that was read before it; -0 is malformed.
-fn read_signed(s: &[u8], at: usize, negative: bool) -> Whole
-    ensures { λ r. ⌜ seenWhole (now (s .entry)) r ≡ signedNumber negative (drop at (now (s .entry))) ⌝ }
-    ensures { λ r. ⌜ withinWhole (now (s .entry)) r ⌝ }
-{
-    match read_number(s, at) {
-        Number::Value(n, next) => {
-            if negative && n == 0 {
-                return Whole::None;
-            }
-            Whole::Int(with_sign(negative, n), next)
-        }
-        Number::Malformed => Whole::None,
-    }
-}
-
-// The number at `at`, after a minus where one may stand.
-fn read_whole(s: &[u8], at: usize, minus: bool) -> Whole
-    ensures { λ r. ⌜ seenWhole (now (s .entry)) r ≡ wholeOf minus (drop at (now (s .entry))) ⌝ }
-    ensures { λ r. ⌜ withinWhole (now (s .entry)) r ⌝ }
-{
-    if !minus {
-        return read_signed(s, at, false);
-    }
-    if s.len() <= at {
-        return Whole::None;
-    }
-    let b = s[at];
-    match classify(b) {
-        Class::Minus => read_signed(s, at + 1, true),
-        _ => read_signed(s, at, false),
-    }
-}
 
 // Whether b ends a number that has `more` numbers after it in its line: a comma, or a line feed after the last.
 fn ends_number(b: u8, more: usize) -> bool
@@ -179,12 +49,12 @@ fn read_field(s: &[u8], at: usize, more: usize, minus: bool) -> Whole
 }
 
 // The place after a key, where the bytes begin with it.
-enum Place {
+pub enum Place {
     After(usize),
     Missing,
 }
 
-fn after_key(s: &[u8], at: usize, key: &[u8]) -> Place
+pub fn after_key(s: &[u8], at: usize, key: &[u8]) -> Place
     requires { ⌜ at ≤ length (now s) ⌝ }
     ensures { λ r. ⌜ seenPlace (now (s .entry)) r ≡ stripped (now (key .entry)) (drop at (now (s .entry))) ⌝ }
     ensures { λ r. ⌜ withinPlace (now (s .entry)) r ⌝ }

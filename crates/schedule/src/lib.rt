@@ -27,7 +27,7 @@ fn first_plan(sheet: Sheet, graph: Graph, interval: usize) -> PlanAnswer
     requires { ⌜ FeasibleAt sheet interval × (graph ≡ graphOf sheet) ⌝ }
     ensures { λ r. ⌜ IfPlan sheet interval r ⌝ }
 {
-    let lags = dependence::lags(graph, interval);
+    let lags = lags::lags(graph, interval);
     let task = model::build::task_of(sheet, graph, interval, lags);
     let domain = model::allowed::allowed_domain(sheet, interval);
     let found = search::first_plan(task, domain);
@@ -56,12 +56,12 @@ fn first_plan(sheet: Sheet, graph: Graph, interval: usize) -> PlanAnswer
 pub fn plan_at(sheet: Sheet, interval: usize) -> PlanAnswer
     ensures { λ r. ⌜ PlanAt sheet interval r ⌝ }
 {
-    let asked = sheet::asked(sheet, interval);
+    let asked = questions::asked(sheet, interval);
     if asked != 0 {
         return refusal(asked);
     }
-    let graph = sheet::graph_of(sheet);
-    let walk = dependence::bad_walk(graph, interval);
+    let graph = sheet_graph::graph_of(sheet);
+    let walk = constraints::bad_walk(graph, interval);
     if walk.answer == 5 {
         let loop_edges = walk.loop_edges;
         return PlanAnswer {
@@ -83,7 +83,7 @@ pub fn plan_at(sheet: Sheet, interval: usize) -> PlanAnswer
 pub fn least_interval(sheet: Sheet) -> IntervalAnswer
     ensures { λ r. ⌜ LeastInterval sheet r ⌝ }
 {
-    let asked = sheet::answer(sheet);
+    let asked = questions::answer(sheet);
     if asked != 0 {
         return IntervalAnswer {
             answer: asked,

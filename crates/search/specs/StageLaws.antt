@@ -9,7 +9,7 @@ use Rattle.task.specs.declared.Task.{Task}
 use Rattle.task.specs.Plan.{TaskOk, PlanOf}
 use Rattle.relax.specs.Relax.{Relaxed, Cluster, Anchored, AnchorRows, moved}
 use Rattle.relax.specs.Anchor.{moved-inside}
-use Rattle.search.specs.Steps.{Budgeted, None, Denied, Emptied}
+use Rattle.search_steps.specs.Steps.{Budgeted, None, Denied, Emptied}
 
 module _ {q : Task} {d : List (List Bool)} {bounded over found r : Bool} {x : List ℕ} (b : Budgeted (PlanOf q) (q .ops) d bounded over found x) (n : None over found r) where
   -- the search for a plan of q came to its end and found none

@@ -7,11 +7,11 @@ ghost use Prim.Native.Nat.{ℕ, _≤_, _<_};
 ghost use Rattle.sizes.specs.Sizes.{mostOperations};
 ghost use Rattle.task.specs.Plan.{TaskOk};
 ghost use Rattle.relax.specs.Relax.{Cluster};
-ghost use Rattle.search.specs.Steps.{Denied};
-use crate::Blame;
-use crate::Marks;
-use crate::budget::none;
+ghost use Rattle.search_steps.specs.Steps.{Denied};
 use crate::search;
+use search_steps::Blame;
+use search_steps::Marks;
+use search_steps::none;
 use sizes::MOST_OPERATIONS;
 use task::Task;
 
@@ -42,8 +42,8 @@ fn anchor_denies(p: Task, i: usize, cluster: Marks) -> bool
     if alone(cluster) {
         return false;
     }
-    let q = relax::anchored(p, i, cluster);
-    let d = relax::anchor_rows(i, cluster);
+    let q = anchor::anchored(p, i, cluster);
+    let d = anchor::anchor_rows(i, cluster);
     let f = search(
         q,
         d,
@@ -109,7 +109,7 @@ pub fn anchors_deny(p: Task, blame: Blame) -> bool
         if ops <= i {
             return false;
         }
-        let cluster = relax::cluster(p, i);
+        let cluster = anchor::cluster(p, i);
         if anchor_denies(p, i, cluster) {
             return true;
         }

@@ -3,50 +3,33 @@
 // An inner layer, a crate of its own for the check's time: `search` and `first_plan` ask for a task whose numbers are
 // within its arrays (`TaskOk`).
 // Caller: schedule::plan_at, which proves `TaskOk` from the sheet and from what `dependence` promises.
-ghost use mathlib.Core.Path.{_≡_};
-ghost use mathlib.Core.Bool.{true, false};
-ghost use Prim.Native.Nat.{ℕ, _+_, _≤_, _<_};
-ghost use Rattle.laws.specs.Entry.{vec};
+ghost use mathlib.Core.Bool.{true};
+ghost use Prim.Native.Nat.{_<_};
 ghost use Rattle.domain.specs.Domain.{Solved, FirstIn};
 ghost use Rattle.domain.specs.First.{Good, Lowered};
 ghost use Rattle.task.specs.Plan.{TaskOk, PlanOf};
-ghost use Rattle.search.specs.Steps.{Budgeted};
+ghost use Rattle.search_steps.specs.Steps.{Budgeted};
 
 mod anchors;
-mod budget;
-mod choose;
-mod eager;
-mod look;
 mod stages;
 
-use budget::answer;
-use budget::fewer;
-use budget::no_answer;
-use budget::spent;
-use choose::blamed;
-use choose::single;
 use domain::Domain;
-use eager::eager;
-use look::look;
+use search_steps::Blame;
+use search_steps::First;
+use search_steps::Found;
+use search_steps::Marks;
+use search_steps::answer;
+use search_steps::blamed;
+use search_steps::eager;
+use search_steps::fewer;
+use search_steps::look;
+use search_steps::no_answer;
+use search_steps::single;
+use search_steps::spent;
 use sizes::MOST_OPERATIONS;
 use sizes::MOST_STARTS;
 use stages::some_plan;
 use task::Task;
-
-// Which operations are marked.
-pub type Marks = [bool; MOST_OPERATIONS];
-
-// How often each operation was found at fault: it only guides the choice.
-pub type Blame = [u32; MOST_OPERATIONS];
-
-// What a search answers: that it is over and says nothing, or whether there is a plan, and one.
-pub struct Found {
-    pub over: bool,
-    pub yes: bool,
-    pub starts: [usize; MOST_OPERATIONS],
-    pub blame: Blame,
-    pub left: u32,
-}
 
 // A plan in the domain, or none; `dirty` marks the rows that are new to the rules. A bounded search is over after
 // `left` nodes, and then it says nothing. A node is one call.
@@ -124,12 +107,6 @@ fn lowered(p: Task, d: Domain, x: [usize; MOST_OPERATIONS], i: usize) -> [usize;
             return best;
         }
     }
-}
-
-#[repr(C)]
-pub struct First {
-    pub yes: bool,
-    pub starts: [usize; MOST_OPERATIONS],
 }
 
 // The first plan in a narrowed domain, from some plan in it: each operation's start is lowered in turn.

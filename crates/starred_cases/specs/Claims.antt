@@ -21,15 +21,15 @@ use Rattle.sheet.specs.Sheet.{InRange, Interval, opAt, typeAt, graphOf}
 use Rattle.sheet.specs.Facts.{ops-most}
 use Rattle.sheet.specs.Questions.{at-no, at-yes}
 use Rattle.sheet.specs.Loop.{Feasible, sheet-exactly}
-use Rattle.reader.specs.Found.{padded}
+use Rattle.sheet_lines.specs.Found.{padded}
 use Rattle.plan.specs.declared.PlanAnswer.{PlanAnswer}
 use Rattle.plan.specs.Rules.{Plan}
 use Rattle.plan.specs.Resource.{resourceBound, greatest, shareOf, ResourceAt}
 use Rattle.plan.specs.Answers.{refused, looped, planned, HasPlan, First, PlanAt, LeastInterval}
 use Rattle.plan.specs.AfterPlan.{plan-given}
 use Rattle.timing.specs.Answers.{RecurrenceAt}
-use Rattle.slot_order.specs.Pairs.{pairCount, PairNumber}
-use Rattle.slot_order.specs.Answers as order
+use Rattle.pair_order.specs.Pairs.{pairCount, PairNumber}
+use Rattle.pair_order.specs.Answers as order
 use Rattle.starred_cases.specs.Tests.{both, upTo, count, boundOf, sheetTest, meetsTest, planTest, noPlanTest, firstTest, badTest, firstWalkTest}
 use Rattle.starred_cases.specs.Lists.{up-at}
 use Rattle.starred_cases.specs.PlanTest.{sheet-is, meets-is, plan-is, no-plan-is, first-is}

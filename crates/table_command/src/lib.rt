@@ -25,8 +25,8 @@ fn put_refusal(out: &mut [u8], answer: usize) -> Written
     ensures { λ r. ⌜ now (out .exit) ≡ bufferOf (refusalText answer) (now (out .entry)) ⌝ }
 {
     let mut line = [0u8; ANSWER_ROOM];
-    let count = text::put_line(&mut line, text::count_line(text::ANSWER, answer));
-    text::put_text(out, &line[..count])
+    let count = text_line::put_line(&mut line, text_line::count_line(text::ANSWER, answer));
+    text_line::put_text(out, &line[..count])
 }
 
 // All that is printed at the interval, at the front of `out`, and its count of bytes; no bytes where a line of the
@@ -36,7 +36,7 @@ pub fn answer(bytes: &[u8], interval: usize, script: &[u8], out: &mut [u8]) -> W
     ensures { λ r. ⌜ Answered (now (bytes .entry)) interval (now (script .entry)) (now (out .entry)) r (now (out .exit)) ⌝ }
 {
     if table_script::line_at_fault(script) != 0 {
-        return text::put_text(out, b"");
+        return text_line::put_text(out, b"");
     }
     let read = reader::read(bytes);
     let refusal = read.answer;
@@ -44,11 +44,11 @@ pub fn answer(bytes: &[u8], interval: usize, script: &[u8], out: &mut [u8]) -> W
         return put_refusal(out, refusal);
     }
     let sheet = read.sheet;
-    let no_interval = sheet::asked(sheet, interval);
+    let no_interval = questions::asked(sheet, interval);
     if no_interval != 0 {
         return put_refusal(out, no_interval);
     }
     let mut text = [0u8; ROOM];
     let count = listing::put_table(&mut text, sheet, interval, script);
-    text::put_text(out, &text[..count])
+    text_line::put_text(out, &text[..count])
 }

@@ -23,7 +23,7 @@ pub fn put_line_at(out: &mut [u8], at: usize, line: Line) -> usize
     requires { ⌜ at + length (textOf line) ≤ length (now out) ⌝ }
     ensures { λ x. ⌜ Pasted at (textOf line) (now (out .entry)) (now (out .exit)) x ⌝ }
 {
-    at + text::put_line(&mut out[at..], line)
+    at + text_line::put_line(&mut out[at..], line)
 }
 
 // 1 for yes, 0 for no.
@@ -42,7 +42,7 @@ fn entry_line(p: Placement) -> Line
     ensures { λ r. ⌜ textOf r ≡ lineTextOf (entryOf p) ⌝ }
 {
     let placed = flag(p.placed);
-    text::line_of(
+    text_line::line_of(
         text::ENTRY,
         3,
         placed as i32,
@@ -72,5 +72,5 @@ pub fn put_table(out: &mut [u8], sheet: Sheet, interval: usize, script: &[u8]) -
     let run = steps::put_steps(out, sheet, interval, script);
     let table = run.table;
     let end = put_entries(out, run.place, sheet.op_count, table);
-    end + page_text::put_page(&mut out[end..], sheet, interval, table)
+    end + page_writer::put_page(&mut out[end..], sheet, interval, table)
 }

@@ -56,11 +56,15 @@ fn put_answer(out: &mut [u8], at: usize, done: PlaceAnswer) -> usize
     requires { ⌜ SmallAnswer done × (at + stepMost ≤ length (now out)) ⌝ }
     ensures { λ x. ⌜ Pasted at (linesText (answerLines done)) (now (out .entry)) (now (out .exit)) x ⌝ }
 {
-    let after = put_line_at(out, at, text::count_line(text::ANSWER, done.answer));
+    let after = put_line_at(out, at, text_line::count_line(text::ANSWER, done.answer));
     if done.answer != 0 {
         return after;
     }
-    put_line_at(out, after, text::count_line(text::INSTANCE, done.instance))
+    put_line_at(
+        out,
+        after,
+        text_line::count_line(text::INSTANCE, done.instance),
+    )
 }
 
 // One step more: its lines from `at` on.

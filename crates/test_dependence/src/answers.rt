@@ -62,7 +62,7 @@ fn starts(sheet: Sheet, interval: usize) {
 
 fn at_interval(sheet: Sheet, interval: usize) {
     test_print::line(b"interval=", interval);
-    let graph = sheet::graph_of(sheet);
+    let graph = sheet_graph::graph_of(sheet);
     totals(graph, interval);
     let w = timing::bad_walk(sheet, interval);
     let edges = w.loop_edges;
@@ -74,7 +74,7 @@ fn at_interval(sheet: Sheet, interval: usize) {
             timing::separations(sheet, interval),
             sheet.op_count,
         );
-        rows(b"lag=", dependence::lags(graph, interval), sheet.op_count);
+        rows(b"lag=", lags::lags(graph, interval), sheet.op_count);
     }
 }
 

@@ -6,9 +6,9 @@ use lib.IntN.{ℤ}
 use Rattle.laws.specs.Entry.{zeros, vec, ZeroFrom}
 use Rattle.dependence.specs.Rules.{Earliest}
 use Rattle.dependence.specs.Answer.{zeroTable, Separations}
-use Rattle.dependence.specs.declared.loops.BadWalk as loops
-use Rattle.dependence.specs.declared.starts.Starts as starts
-use Rattle.dependence.specs.declared.bound.Bound as bounds
+use Rattle.constraints.specs.declared.loops.BadWalk as loops
+use Rattle.constraints.specs.declared.starts.Starts as starts
+use Rattle.constraints.specs.declared.bound.Bound as bounds
 use Rattle.sheet.specs.declared.Sheet.{Sheet}
 use Rattle.sheet.specs.Sheet.{Interval, opAt, graphOf}
 use Rattle.sheet.specs.Questions.{Asked, Is, OnSheet, AtInterval}

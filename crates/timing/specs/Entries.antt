@@ -9,9 +9,9 @@ use lib.Signed.{_≤ℤ_}
 use Rattle.laws.specs.Entry.{ZeroFrom}
 use Rattle.dependence.specs.Rules.{Earliest, Separation}
 use Rattle.dependence.specs.Answer.{Cell, cell-none, cell-some}
-use Rattle.dependence.specs.declared.loops.BadWalk as loops
-use Rattle.dependence.specs.declared.starts.Starts as starts
-use Rattle.dependence.specs.declared.bound.Bound as bounds
+use Rattle.constraints.specs.declared.loops.BadWalk as loops
+use Rattle.constraints.specs.declared.starts.Starts as starts
+use Rattle.constraints.specs.declared.bound.Bound as bounds
 use Rattle.sheet.specs.declared.Sheet.{Sheet}
 use Rattle.sheet.specs.declared.Operation.{Operation}
 use Rattle.sheet.specs.Sheet.{InRange, opAt, graphOf}

@@ -13,7 +13,7 @@ use Rattle.laws.specs.Pigeon.{find, pigeon}
 use Rattle.laws.specs.Store.{all-zero}
 use Rattle.laws.specs.Z.{zed, sum, minus}
 use Rattle.dependence.specs.declared.Graph.{Graph}
-use Rattle.dependence.specs.declared.starts.Starts as starts
+use Rattle.constraints.specs.declared.starts.Starts as starts
 use Rattle.dependence.specs.Graph.{InRange, Interval, edgeAt, totalOf, total, TotalOk, total-ok}
 use Rattle.dependence.specs.Rules.{Meets, Earliest}
 use Rattle.sheet.specs.declared.Sheet.{Sheet}

@@ -9,9 +9,9 @@ use lib.IntN.{ℤ}
 use Rattle.sizes.specs.Sizes.{mostOperations}
 use Rattle.laws.specs.Entry.{vec}
 use Rattle.dependence.specs.Answer.{WalkAnswer, walk-three, walk-four, walk-five, walk-none, StartsAnswer, starts-three, starts-four, starts-five, starts-found, TableAnswer, table-refused, table-bad, table-found, Separations, BoundAnswer, bound-three, bound-eight, bound-found}
-use Rattle.dependence.specs.declared.loops.BadWalk as loops
-use Rattle.dependence.specs.declared.starts.Starts as starts
-use Rattle.dependence.specs.declared.bound.Bound as bounds
+use Rattle.constraints.specs.declared.loops.BadWalk as loops
+use Rattle.constraints.specs.declared.starts.Starts as starts
+use Rattle.constraints.specs.declared.bound.Bound as bounds
 use Rattle.sheet.specs.declared.Sheet.{Sheet}
 use Rattle.sheet.specs.Sheet.{InRange, Interval, graphOf}
 use Rattle.sheet.specs.Facts.{graph-in-range, interval-in-range, cap-in-range, horizon-most, lo-below}

@@ -11,7 +11,7 @@ use Rattle.sizes.specs.Sizes.{mostOperations}
 use Rattle.laws.specs.Entry.{cell, zero-one}
 use Rattle.dependence.specs.Answer.{zeroTable, Separations, table-found}
 use Rattle.dependence.specs.Unique.{earliest-one, separations-one}
-use Rattle.dependence.specs.declared.loops.BadWalk as loops
+use Rattle.constraints.specs.declared.loops.BadWalk as loops
 use Rattle.sheet.specs.declared.Sheet.{Sheet}
 use Rattle.sheet.specs.Sheet.{InRange, Interval, graphOf}
 use Rattle.sheet.specs.Facts.{graph-in-range, interval-in-range}

@@ -3,9 +3,9 @@
 ghost use mathlib.Core.Path.{_≡_};
 ghost use Rattle.timing.specs.Answers.{WalkAt, StartsAt, SeparationsAt, RecurrenceAt, withoutLoop, startsRefused};
 ghost use Rattle.timing.specs.Floors.{Floors};
-use dependence::BadWalk;
-use dependence::Bound;
-use dependence::Starts;
+use constraints::BadWalk;
+use constraints::Bound;
+use constraints::Starts;
 use sheet::Operation;
 use sheet::Sheet;
 use sizes::MOST_OPERATIONS;
@@ -36,11 +36,11 @@ fn starts_refused(answer: usize) -> Starts
 pub fn bad_walk(sheet: Sheet, interval: usize) -> BadWalk
     ensures { λ r. ⌜ WalkAt sheet interval r ⌝ }
 {
-    let refusal = sheet::asked(sheet, interval);
+    let refusal = questions::asked(sheet, interval);
     if refusal != 0 {
         return without_loop(refusal);
     }
-    dependence::bad_walk(sheet::graph_of(sheet), interval)
+    constraints::bad_walk(sheet_graph::graph_of(sheet), interval)
 }
 
 // The floor of each start: the first clock of the operation's window.
@@ -61,12 +61,12 @@ fn window_starts(ops: [Operation; MOST_OPERATIONS]) -> [usize; MOST_OPERATIONS]
 pub fn earliest_starts(sheet: Sheet, interval: usize) -> Starts
     ensures { λ r. ⌜ StartsAt sheet interval r ⌝ }
 {
-    let refusal = sheet::asked(sheet, interval);
+    let refusal = questions::asked(sheet, interval);
     if refusal != 0 {
         return starts_refused(refusal);
     }
     let ops = sheet.ops;
-    dependence::earliest(sheet::graph_of(sheet), interval, window_starts(ops))
+    constraints::earliest(sheet_graph::graph_of(sheet), interval, window_starts(ops))
 }
 
 // The separation table: each cell the greatest sum over walks of at least one edge, or the mark, whatever the horizon
@@ -74,10 +74,10 @@ pub fn earliest_starts(sheet: Sheet, interval: usize) -> Starts
 pub fn separations(sheet: Sheet, interval: usize) -> [[i32; MOST_OPERATIONS]; MOST_OPERATIONS]
     ensures { λ r. ⌜ SeparationsAt sheet interval r ⌝ }
 {
-    if sheet::asked(sheet, interval) != 0 {
+    if questions::asked(sheet, interval) != 0 {
         return [[0; MOST_OPERATIONS]; MOST_OPERATIONS];
     }
-    dependence::separations(sheet::graph_of(sheet), interval)
+    constraints::separations(sheet_graph::graph_of(sheet), interval)
 }
 
 // The least interval in 1 to the cap without a bad closed walk, whatever the horizon and the windows; or the sheet's
@@ -85,12 +85,12 @@ pub fn separations(sheet: Sheet, interval: usize) -> [[i32; MOST_OPERATIONS]; MO
 pub fn recurrence_bound(sheet: Sheet) -> Bound
     ensures { λ r. ⌜ RecurrenceAt sheet r ⌝ }
 {
-    let refusal = sheet::answer(sheet);
+    let refusal = questions::answer(sheet);
     if refusal != 0 {
         return Bound {
             answer: refusal,
             value: 0,
         };
     }
-    dependence::recurrence_bound(sheet::graph_of(sheet), sheet.cap)
+    constraints::recurrence_bound(sheet_graph::graph_of(sheet), sheet.cap)
 }

@@ -6,18 +6,18 @@ ghost use Prim.Native.Nat.{_+_, _≤_, _<_};
 ghost use lib.ListN.{drop};
 ghost use Rattle.sheet.specs.Sheet.{InRange, Interval};
 ghost use Rattle.denial.specs.At.{rulesAt};
-ghost use Rattle.tree_nodes.specs.Bounds.{boxOf, Small};
+ghost use Rattle.tree_boxes.specs.Bounds.{boxOf, Small};
 ghost use Rattle.tree_judge.specs.Reading.{mostLines, mostCuts, treeFrom};
 ghost use Rattle.tree_judge.specs.Verdicts.{stoppedAt, leafFault, cutFault, Judges, RootJudged};
 use sheet::Sheet;
+use tree_boxes::Bounds;
+use tree_boxes::above;
+use tree_boxes::root;
+use tree_boxes::up_to;
 use tree_lines::SEAT;
 use tree_lines::read_node;
-use tree_nodes::Bounds;
-use tree_nodes::above;
 use tree_nodes::cut_allowed;
 use tree_nodes::leaf_so;
-use tree_nodes::root;
-use tree_nodes::up_to;
 
 // The most lines of an answer.
 const MOST_LINES: usize = 1024;

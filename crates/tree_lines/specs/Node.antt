@@ -7,7 +7,7 @@ use lib.Dec.{eqb, ltb, leb}
 use lib.ListN.{length, drop, take, getD, replicate}
 use Rattle.text.specs.Sizes.{fourDigits}
 use Rattle.text.specs.Keys.{loopKey}
-use Rattle.scan.specs.List.{mostItems, Listed, onListed, listOf}
+use Rattle.scan_list.specs.List.{mostItems, Listed, onListed, listOf}
 use Rattle.denial.specs.Tree.{Cut, split, seat, Leaf, loop, late, clash}
 use Rattle.tree_lines.specs.declared.Node.{Node}
 

@@ -14,9 +14,9 @@ use Rattle.laws.specs.Z.{true-false}
 use Rattle.laws.specs.Store.{all-zero}
 use Rattle.laws.specs.Tests.{by-test}
 use Rattle.text.specs.Keys.{loopKey}
-use Rattle.scan.specs.List.{mostItems, Listed, listed, unlisted, onListed, listOf, ItemsFit}
-use Rattle.scan.specs.ListLaws.{ListAt, is-list, is-no-list}
-use Rattle.scan.specs.declared.list.Items.{Items}
+use Rattle.scan_list.specs.List.{mostItems, Listed, listed, unlisted, onListed, listOf, ItemsFit}
+use Rattle.scan_list.specs.ListLaws.{ListAt, is-list, is-no-list}
+use Rattle.scan_list.specs.declared.Items.{Items}
 use Rattle.denial.specs.Tree.{Cut, split, seat, loop, late, clash, Below, none, more, CutKnown, LeafKnown}
 use Rattle.tree_lines.specs.declared.Node.{Node}
 use Rattle.tree_lines.specs.Node.{splitKey, seatKey, lateKey, clashKey, mostChained}

@@ -14,8 +14,8 @@ use Rattle.text.specs.Lines.{lineTextOf}
 use Rattle.text.specs.Sizes.{fourDigits}
 use Rattle.text.specs.Text.{lineText}
 use Rattle.scan.specs.Line.{stripped}
-use Rattle.scan.specs.List.{mostItems, Listed, listed, unlisted, onListed, listOf}
-use Rattle.scan.specs.ListLaws.{small-more, reads-list, ListRead, list-text}
+use Rattle.scan_list.specs.List.{mostItems, Listed, listed, unlisted, onListed, listOf}
+use Rattle.scan_list.specs.ListLaws.{small-more, reads-list, ListRead, list-text}
 use Rattle.denial.specs.Tree.{Cut, split, seat, Leaf, loop, late, clash, Below, none, more, CutKnown, LeafKnown}
 use Rattle.tree_lines.specs.Node.{splitKey, seatKey, lateKey, clashKey, mostChained}
 use Rattle.tree_lines.specs.Node.{NodeRead, cutting, closing, malformed, both, allBelow}

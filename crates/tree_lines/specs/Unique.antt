@@ -7,7 +7,7 @@ use native.Mathlib.Decide.{decLt}
 use native.Mathlib.Omega.{arith}
 use lib.ListN.{drop, getD}
 use Rattle.scan.specs.OneLine.{same-place}
-use Rattle.scan.specs.ListLaws.{Front, same-front}
+use Rattle.scan_list.specs.ListLaws.{Front, same-front}
 use Rattle.denial.specs.Tree.{split, seat, loop, late, clash}
 use Rattle.tree_lines.specs.declared.Node.{Node}
 use Rattle.tree_lines.specs.Node.{NodeRead, cutting, closing, malformed}

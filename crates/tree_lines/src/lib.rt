@@ -3,12 +3,12 @@ ghost use mathlib.Core.Path.{_≡_};
 ghost use Prim.Native.Nat.{_≤_};
 ghost use lib.Dec.{eqb, ltb};
 ghost use lib.ListN.{drop, take, getD};
-ghost use Rattle.scan.specs.List.{mostItems};
+ghost use Rattle.scan_list.specs.List.{mostItems};
 ghost use Rattle.tree_lines.specs.Node.{allBelow, both, nodeOf, seenNode, NodeFits};
 ghost use Rattle.tree_lines.specs.NodeLaws.{nodeIf};
-use scan::Items;
-use scan::MOST_ITEMS;
-use scan::read_list;
+use scan_list::Items;
+use scan_list::MOST_ITEMS;
+use scan_list::read_list;
 
 // The kinds of line; 0 is none.
 pub const SPLIT: usize = 1;

@@ -13,7 +13,7 @@ use borrow.Author.Tests.{eqb-true, eq-eqb, ne-eqb}
 use Rattle.laws.specs.Z.{zed}
 use Rattle.laws.specs.Entry.{at}
 use Rattle.net.specs.Small.{mostWeight}
-use Rattle.scan.specs.List.{mostItems}
+use Rattle.scan_list.specs.List.{mostItems}
 use Rattle.dependence.specs.declared.Graph.{Graph}
 use Rattle.dependence.specs.Graph.{edgeAt, total, InRange, Interval}
 use Rattle.dependence.specs.Answer.{Totals}
@@ -21,7 +21,7 @@ use Rattle.dependence.specs.Rules.{Chain, here, step, sum}
 use Rattle.rules.specs.Totals.{total-small}
 use Rattle.denial.specs.Tree.{Below, more}
 use Rattle.tree_nodes.specs.declared.chain.Walked.{Walked}
-use Rattle.tree_nodes.specs.Within.{Within}
+use Rattle.tree_boxes.specs.Within.{Within}
 
 -- how far the sum of a line's edges may be from 0
 abbrev pub mostSum : ℕ

@@ -3,13 +3,13 @@ ghost use mathlib.Core.Path.{_≡_};
 ghost use Prim.Native.Nat.{_≤_, _<_};
 ghost use lib.IntN.{pos};
 ghost use lib.ListN.{length, drop, take};
-ghost use Rattle.scan.specs.List.{mostItems};
+ghost use Rattle.scan_list.specs.List.{mostItems};
 ghost use Rattle.dependence.specs.Graph as graphs;
 ghost use Rattle.sheet.specs.Sheet.{InRange, Interval, graphOf};
 ghost use Rattle.denial.specs.Tree.{Below};
 ghost use Rattle.tree_nodes.specs.Chain.{SmallTotals, Walking, seenWalk, walkFrom, Followed};
 use dependence::Graph;
-use scan::MOST_ITEMS;
+use scan_list::MOST_ITEMS;
 use sheet::Sheet;
 use sizes::MOST_EDGES;
 
@@ -76,7 +76,7 @@ pub fn chained(
     requires { ⌜ Below (sheet .«edge_count») (drop from (take count (now values))) ⌝ }
     ensures { λ r. ⌜ Followed (graphOf sheet) interval start (drop from (take count (now (values .entry)))) r ⌝ }
 {
-    let graph = sheet::graph_of(sheet);
+    let graph = sheet_graph::graph_of(sheet);
     let found = dependence::totals(graph, interval);
     let totals = found.values;
     follow(graph, &totals, values, from, count, start)

@@ -6,20 +6,20 @@ ghost use lib.Signed.{_<ℤ_};
 ghost use lib.ListN.{length, drop, take, getD};
 ghost use Rattle.sizes.specs.Sizes.{mostOperations};
 ghost use Rattle.laws.specs.Says.{Says};
-ghost use Rattle.scan.specs.List.{mostItems};
+ghost use Rattle.scan_list.specs.List.{mostItems};
 ghost use Rattle.dependence.specs.Rules.{BadWalk};
 ghost use Rattle.sheet.specs.Sheet.{InRange, Interval, graphOf};
 ghost use Rattle.denial.specs.Tree.{Below, LeafKnown};
 ghost use Rattle.denial.specs.Passes.{Pinned, Late, Clash, So, Allowed};
 ghost use Rattle.denial.specs.At.{rulesAt};
 ghost use Rattle.tree_lines.specs.Node.{cutSeen, leafSeen};
-ghost use Rattle.tree_nodes.specs.Within.{Within, mostBound};
-ghost use Rattle.tree_nodes.specs.Bounds.{boxOf, Small};
+ghost use Rattle.tree_boxes.specs.Within.{Within, mostBound};
+ghost use Rattle.tree_boxes.specs.Bounds.{boxOf, Small};
 ghost use Rattle.tree_nodes.specs.Chain.{mostSum};
 use crate::chain::chained;
-use crate::cut::Bounds;
-use scan::MOST_ITEMS;
+use scan_list::MOST_ITEMS;
 use sheet::Sheet;
+use tree_boxes::Bounds;
 use tree_lines::LATE;
 use tree_lines::LOOP;
 use tree_lines::Node;
@@ -32,7 +32,7 @@ pub fn cut_allowed(sheet: Sheet, interval: usize, node: Node) -> bool
     if node.kind == SPLIT {
         return true;
     }
-    0 < rules::instances_of(sheet, node.values[0])
+    0 < operations::instances_of(sheet, node.values[0])
 }
 
 // `loop=`: a bad closed walk.
@@ -105,7 +105,7 @@ fn clash_so(sheet: Sheet, interval: usize, b: Bounds, i: usize, j: usize) -> boo
     ensures { λ r. ⌜ Says (Clash (rulesAt sheet interval) (boxOf b) i j) r ⌝ }
 {
     if i == j {
-        return !rules::holds_allowed(sheet, interval, i, 0);
+        return !start_rules::holds_allowed(sheet, interval, i, 0);
     }
     if !pinned(b, i) {
         return false;

@@ -29,7 +29,7 @@ pub fn kept_up_to(
     if !operations::instances_allowed(sheet, instances, n) {
         return false;
     }
-    if !edges::all_met(sheet::graph_of(sheet), interval, starts, n) {
+    if !edges::all_met(sheet_graph::graph_of(sheet), interval, starts, n) {
         return false;
     }
     pairs::all_apart(sheet, interval, starts, instances, n)

@@ -2,7 +2,7 @@
 // `is_plan` puts the questions about the sheet and the interval first. `holds`, and `first_broken`, which names the
 // first operation that breaks a rule, are for services that have put them: both ask for a sheet in range and an
 // interval up to the cap. Callers today: of `holds` `is_plan`, of `first_broken` `judge::judge` and its line at fault,
-// each once `sheet::asked` has answered 0.
+// each once `questions::asked` has answered 0.
 ghost use Rattle.laws.specs.Entry.{vec};
 ghost use Rattle.laws.specs.Says.{Says};
 ghost use Rattle.sheet.specs.Sheet.{InRange, Interval};
@@ -47,7 +47,7 @@ pub fn is_plan(
 ) -> Checked
     ensures { λ r. ⌜ CheckedAt sheet interval (vec starts) (vec instances) r ⌝ }
 {
-    let refusal = sheet::asked(sheet, interval);
+    let refusal = questions::asked(sheet, interval);
     if refusal != 0 {
         return Checked {
             answer: refusal,

@@ -18,7 +18,7 @@ fn start_allowed(sheet: Sheet, interval: usize, op: usize, t: usize) -> bool
     if MOST_STARTS <= t {
         return false;
     }
-    let row = rules::allowed_starts(sheet, interval, op);
+    let row = start_rules::allowed_starts(sheet, interval, op);
     row[t]
 }
 

@@ -23,7 +23,7 @@ fn type_line(t: ResourceType) -> Line
     requires { ⌜ TypeInRange t ⌝ }
     ensures { λ r. ⌜ textOf r ≡ lineTextOf (typeLine t) ⌝ }
 {
-    text::line_of(
+    text_line::line_of(
         text::TYPE,
         3,
         t.instances as i32,
@@ -37,14 +37,14 @@ fn op_line(o: Operation) -> Line
     requires { ⌜ OpInRange mostTypes mostStarts o ⌝ }
     ensures { λ r. ⌜ textOf r ≡ lineTextOf (opLine o) ⌝ }
 {
-    text::line_of(text::OP, 3, o.resource as i32, o.lo as i32, o.hi as i32, 0)
+    text_line::line_of(text::OP, 3, o.resource as i32, o.lo as i32, o.hi as i32, 0)
 }
 
 fn edge_line(e: Edge) -> Line
     requires { ⌜ EdgeInRange mostOperations e ⌝ }
     ensures { λ r. ⌜ textOf r ≡ lineTextOf (edgeLine e) ⌝ }
 {
-    text::line_of(
+    text_line::line_of(
         text::EDGE,
         4,
         e.from as i32,
@@ -65,12 +65,12 @@ fn head_line(s: Sheet, i: usize) -> Line
     ensures { λ r. ⌜ textOf r ≡ lineTextOf (getD (sheetLines s) i noLine) ⌝ }
 {
     if i == 0 {
-        return text::count_line(text::HORIZON, s.horizon);
+        return text_line::count_line(text::HORIZON, s.horizon);
     }
     if i == 1 {
-        return text::count_line(text::CAP, s.cap);
+        return text_line::count_line(text::CAP, s.cap);
     }
-    text::count_line(text::TYPES, s.type_count)
+    text_line::count_line(text::TYPES, s.type_count)
 }
 
 fn line_at(s: Sheet, i: usize) -> Line
@@ -85,14 +85,14 @@ fn line_at(s: Sheet, i: usize) -> Line
         return type_line(s.types[j]);
     }
     if j == s.type_count {
-        return text::count_line(text::OPS, s.op_count);
+        return text_line::count_line(text::OPS, s.op_count);
     }
     let k = j - s.type_count - 1;
     if k < s.op_count {
         return op_line(s.ops[k]);
     }
     if k == s.op_count {
-        return text::count_line(text::EDGES, s.edge_count);
+        return text_line::count_line(text::EDGES, s.edge_count);
     }
     edge_line(s.edges[k - s.op_count - 1])
 }
@@ -113,7 +113,7 @@ fn text_length(s: Sheet) -> usize
     let lines = line_count(s);
     let mut total = 0;
     for i in 0..lines {
-        total += text::line_length(line_at(s, i));
+        total += text_line::line_length(line_at(s, i));
     }
     total
 }
@@ -126,7 +126,7 @@ fn fill(s: Sheet, out: &mut [u8]) -> usize
     let lines = line_count(s);
     let mut at = 0;
     for i in 0..lines {
-        at += text::put_line(&mut out[at..], line_at(s, i));
+        at += text_line::put_line(&mut out[at..], line_at(s, i));
     }
     at
 }
@@ -136,7 +136,7 @@ fn fill(s: Sheet, out: &mut [u8]) -> usize
 pub fn write(s: Sheet, out: &mut [u8]) -> Written
     ensures { λ r. ⌜ Wrote s (now (out .entry)) r (now (out .exit)) ⌝ }
 {
-    let refusal = sheet::answer(s);
+    let refusal = questions::answer(s);
     if refusal != 0 {
         return Written {
             answer: refusal,

@@ -11,10 +11,10 @@ use Rattle.reader.specs.Read.{readOf}
 use Rattle.reader.specs.FaultLaws.{fault-small}
 use Rattle.round_trip.specs.RoundTrip.{only-text}
 use Rattle.round_trip.specs.Reading.{read-small}
-use Rattle.commands.specs.Listing.{refusalLines}
-use Rattle.commands.specs.Shows.{lists}
-use Rattle.commands.specs.Answers.{put}
-use Rattle.commands.specs.Prints.{Serves, Prints, refused, read}
+use Rattle.command_lines.specs.Listing.{refusalLines}
+use Rattle.command_lines.specs.Shows.{lists}
+use Rattle.command_lines.specs.Answers.{put}
+use Rattle.command_lines.specs.Prints.{Serves, Prints, refused, read}
 use native.Mathlib.Omega.{arith}
 use borrow.Author.Needs.{needs}
 use Rattle.commands.proofs.answer.Statement.{statement}

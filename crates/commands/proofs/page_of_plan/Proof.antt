@@ -8,9 +8,9 @@ use Rattle.sheet.specs.Sheet.{InRange}
 use Rattle.sheet.specs.Questions.{at-no, at-yes}
 use Rattle.reader.specs.declared.ReadAnswer.{ReadAnswer}
 use Rattle.round_trip.specs.Reading.{read-small, read-in-range}
-use Rattle.commands.specs.Shows.{lists}
-use Rattle.commands.specs.Answers.{put}
-use Rattle.commands.specs.Prints.{ServesPage}
+use Rattle.command_lines.specs.Shows.{lists}
+use Rattle.command_lines.specs.Answers.{put}
+use Rattle.command_lines.specs.Prints.{ServesPage}
 use native.Mathlib.Omega.{arith}
 use borrow.Author.Needs.{needs}
 use Rattle.commands.proofs.page_of_plan.Statement.{statement}

@@ -1,8 +1,8 @@
 -- `commands::plan` meets its contract: 4 alone, or the lines of the interval.
 -- From what `asked`, `alone`, `put` and `interval_text` ensure.
-use Rattle.commands.specs.Shows.{lists}
-use Rattle.commands.specs.Printable.{asked-four}
-use Rattle.commands.specs.Answers.{put, plan-four, interval-put}
+use Rattle.command_lines.specs.Shows.{lists}
+use Rattle.command_lines.specs.Printable.{asked-four}
+use Rattle.command_lines.specs.Answers.{put, plan-four, interval-put}
 use native.Mathlib.Omega.{arith}
 use borrow.Author.Needs.{needs}
 use Rattle.commands.proofs.plan.Statement.{statement}

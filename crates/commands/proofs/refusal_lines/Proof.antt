@@ -7,8 +7,8 @@ use Rattle.text.specs.Keys.{lineKey}
 use Rattle.text.specs.Line.{keyOf}
 use Rattle.text.specs.Lines.{countLine}
 use Rattle.words.specs.declared.Command.{Command}
-use Rattle.commands.specs.Listing.{refusalLines}
-use Rattle.commands.specs.Shows.{Shows, added, one}
+use Rattle.command_lines.specs.Listing.{refusalLines}
+use Rattle.command_lines.specs.Shows.{Shows, added, one}
 use Rattle.commands.proofs.Variants.{not-check}
 use native.Mathlib.Omega.{arith}
 use borrow.Author.Needs.{needs}

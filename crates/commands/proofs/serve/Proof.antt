@@ -7,9 +7,9 @@ use Rattle.text.specs.declared.Written.{Written}
 use Rattle.sheet.specs.declared.Sheet.{Sheet}
 use Rattle.round_trip.specs.RoundTrip.{text-short}
 use Rattle.words.specs.declared.Command.{Command}
-use Rattle.commands.specs.Shows.{lists}
-use Rattle.commands.specs.Answers.{put, write-put}
-use Rattle.commands.specs.Prints.{Serves, Put, check}
+use Rattle.command_lines.specs.Shows.{lists}
+use Rattle.command_lines.specs.Answers.{put, write-put}
+use Rattle.command_lines.specs.Prints.{Serves, Put, check}
 use borrow.Author.Needs.{needs}
 use Rattle.commands.proofs.serve.Statement.{statement}
 use Rattle.commands.proofs.serve.Tie as tie

@@ -2,7 +2,7 @@
 -- Assumes nothing.
 use mathlib.Core.Path.{sym, _∙_}
 use Rattle.reader.specs.FaultLaws.{fault-found, fault-refused}
-use Rattle.reader.specs.Steps.{is-found, is-refused}
+use Rattle.sheet_lines.specs.Steps.{is-found, is-refused}
 use borrow.Author.Needs.{needs}
 use Rattle.reader.proofs.line_at_fault.Statement.{statement}
 use Rattle.reader.proofs.line_at_fault.Tie as tie

@@ -4,9 +4,9 @@ use mathlib.Core.Path.{_≡_}
 use native.Mathlib.Omega.{arith}
 use lib.ListN.{drop, take, drop-of-length-le}
 use lib.Seq.{drop-cons}
-use Rattle.reader.specs.Found.{found, lineFrom, sectionFrom}
-use Rattle.reader.specs.Kinds.{horizonKind, capKind, typesKind, opsKind, typeKind, opKind}
-use Rattle.reader.specs.Steps.{is-found, is-refused}
+use Rattle.sheet_lines.specs.Found.{found, lineFrom, sectionFrom}
+use Rattle.sheet_lines.specs.Kinds.{horizonKind, capKind, typesKind, opsKind, typeKind, opKind}
+use Rattle.sheet_lines.specs.Steps.{is-found, is-refused}
 use Rattle.reader.specs.Whole.{too-long, stops-horizon, stops-cap, stops-types, stops-ops, stops-edges, something-more, whole, filled-length, whole-refused, whole-found}
 use borrow.Author.Needs.{needs}
 use Rattle.reader.proofs.read_whole.Statement.{statement}

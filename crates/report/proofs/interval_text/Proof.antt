@@ -1,7 +1,7 @@
 -- `report::interval_text` meets its contract: the sheet's questions and 4, then the lines of the plan's answer.
 -- From what `asked`, `plan_at` and `put_interval` ensure.
 use Rattle.sheet.specs.Questions.{accepted}
-use Rattle.report.specs.Small.{small}
+use Rattle.interval_lines.specs.Small.{small}
 use Rattle.report.specs.IntervalText.{refusal, made}
 use borrow.Author.Needs.{needs}
 use Rattle.report.proofs.interval_text.Statement.{statement}

@@ -1,6 +1,6 @@
 -- `report::plan_text` meets its contract: the questions of the plan, then question 9.
 -- From what `plan_at` and `put_interval` ensure.
-use Rattle.report.specs.Small.{plan-small}
+use Rattle.interval_lines.specs.Small.{plan-small}
 use Rattle.report.specs.PlanText.{refusal, made}
 use native.Mathlib.Omega.{arith}
 use borrow.Author.Needs.{needs}

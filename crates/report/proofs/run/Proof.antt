@@ -10,8 +10,9 @@ use Rattle.text.specs.Bounds.{answer-most}
 use Rattle.text.specs.Writing.{part-length}
 use Rattle.text.specs.Answers.{answerLine}
 use Rattle.sheet.specs.Facts.{cap-most}
-use Rattle.report.specs.Print.{intervalLines, none, stops}
-use Rattle.report.specs.Small.{SmallAnswer, small}
+use Rattle.interval_lines.specs.IntervalLines.{intervalLines}
+use Rattle.report.specs.Print.{none, stops}
+use Rattle.interval_lines.specs.Small.{SmallAnswer, small}
 use Rattle.report.specs.Bounds.{answerMost, planMost, refusalMost, lines-most, refusal-most, answer-short}
 use Rattle.report.specs.Printing.{Printing, start, same-size, more-size, finish, again, front-size}
 use native.Mathlib.Omega.{arith}

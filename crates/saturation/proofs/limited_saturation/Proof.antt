@@ -3,7 +3,7 @@
 use borrow.Author.Needs.{needs}
 use Rattle.task.specs.Plan.{PlanOf}
 use Rattle.domain.specs.Empty.{keeps-none}
-use Rattle.saturation.specs.TrimLaws.{crowded-none}
+use Rattle.saturation_trims.specs.TrimLaws.{crowded-none}
 use Rattle.saturation.proofs.limited_saturation.Statement.{statement}
 use Rattle.saturation.proofs.limited_saturation.Tie as tie
 

@@ -1,7 +1,7 @@
 -- `saturation::slot_saturation` cuts what the bars from a slot rule out, or tells that there is no plan.
 -- From `bars` and `drained`, by `slot-fail` and `slot-cut`.
 use borrow.Author.Needs.{needs}
-use Rattle.saturation.specs.TrimLaws.{drained-self, slot-fail, slot-cut}
+use Rattle.saturation_trims.specs.TrimLaws.{drained-self, slot-fail, slot-cut}
 use Rattle.saturation.proofs.slot_saturation.Statement.{statement}
 use Rattle.saturation.proofs.slot_saturation.Tie as tie
 

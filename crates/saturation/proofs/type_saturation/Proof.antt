@@ -8,8 +8,8 @@ use Rattle.domain.specs.Domain.{Keeps}
 use Rattle.domain.specs.Split.{keeps-self}
 use Rattle.domain.specs.Empty.{keeps-none}
 use Rattle.task.specs.Plan.{PlanOf}
-use Rattle.saturation.specs.Saturation.{Reach}
-use Rattle.saturation.specs.TrimLaws.{bars-none, bars-keep}
+use Rattle.saturation_slots.specs.Saturation.{Reach}
+use Rattle.saturation_trims.specs.TrimLaws.{bars-none, bars-keep}
 use Rattle.saturation.proofs.type_saturation.Statement.{statement}
 use Rattle.saturation.proofs.type_saturation.Tie as tie
 

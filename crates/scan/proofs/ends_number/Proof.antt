@@ -3,7 +3,7 @@
 -- Assumes nothing.
 use borrow.Author.Needs.{needs}
 use mathlib.Core.Path.{sym, _∙_}
-use Rattle.scan.specs.Bytes.{byte-of}
+use Rattle.scan_number.specs.Bytes.{byte-of}
 use Rattle.scan.proofs.Fields.{comma-ends, feed-ends, other-ends}
 use Rattle.scan.proofs.ends_number.Statement.{statement}
 use Rattle.scan.proofs.ends_number.Tie as tie

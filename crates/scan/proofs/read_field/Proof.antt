@@ -1,9 +1,9 @@
 -- `scan::read_field` meets its contract: the byte after the number picks the clause of `fieldOf`.
 -- Assumes nothing.
-use Rattle.scan.proofs.Signs.{small-bits, seen-int, seen-none, within-int}
+use Rattle.scan_number.proofs.Signs.{small-bits, seen-int, seen-none, within-int}
 use mathlib.Core.Path.{sym, _∙_}
 use native.Mathlib.Omega.{arith}
-use Rattle.scan.specs.Number.{seenWhole, withinWhole}
+use Rattle.scan_number.specs.Number.{seenWhole, withinWhole}
 use Rattle.scan.proofs.Fields.{field-got, field-other, field-short, field-none}
 use borrow.Author.Needs.{needs}
 use Rattle.scan.proofs.read_field.Statement.{statement}

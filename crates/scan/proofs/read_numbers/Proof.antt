@@ -7,7 +7,7 @@ use mathlib.Core.Path.{_≡_, sym, _∙_}
 use mathlib.Core.List.{[]}
 use lib.ListN.{length, take, drop}
 use Rattle.scan.specs.Line.{fieldsFrom, seenLine}
-use Rattle.scan.proofs.Signs.{small-bits, seen-int, seen-none, within-int}
+use Rattle.scan_number.proofs.Signs.{small-bits, seen-int, seen-none, within-int}
 use Rattle.scan.proofs.Fields.{Filled, filled-none, filled-more, numbers-stop, numbers-more, numbers-end, fits-line, fits-none}
 use Rattle.scan.proofs.read_numbers.Statement.{statement}
 use Rattle.scan.proofs.read_numbers.Tie as tie

@@ -11,20 +11,20 @@ use Rattle.sizes.specs.Sizes.{mostOperations}
 use Rattle.laws.specs.Z.{true-false}
 use Rattle.domain.specs.Split.{size, count, Left, Splits, size-le, solved-wider, left-all, child-less, child-found, left-next, left-none, rest-less}
 use Rattle.task.specs.Plan.{PlanOf}
-use Rattle.search.specs.StepLaws.{told, ended}
+use Rattle.search_steps.specs.StepLaws.{told, ended}
 use Rattle.search.proofs.+search.{statement}
 use Rattle.search.proofs.+search.Tie.{close}
 use Rattle.search.proofs.search.Reads as search′
 use Rattle.search.proofs.search.Kinds as search-kinds
 use Rattle.search.proofs.+search.Lts-search as search-lts
 use Rattle.narrow.proofs.narrow.Reads as narrow-reads
-use Rattle.search.proofs.budget.answer.Reads as answer-reads
-use Rattle.search.proofs.budget.fewer.Reads as fewer-reads
-use Rattle.search.proofs.budget.no_answer.Reads as no-answer-reads
-use Rattle.search.proofs.budget.spent.Reads as spent-reads
-use Rattle.search.proofs.choose.blamed.Reads as blamed-reads
-use Rattle.search.proofs.look.look.Reads as look-reads
-use Rattle.search.proofs.choose.single.Reads as single-reads
+use Rattle.search_steps.proofs.answer.Reads as answer-reads
+use Rattle.search_steps.proofs.fewer.Reads as fewer-reads
+use Rattle.search_steps.proofs.no_answer.Reads as no-answer-reads
+use Rattle.search_steps.proofs.spent.Reads as spent-reads
+use Rattle.search_steps.proofs.blamed.Reads as blamed-reads
+use Rattle.search_steps.proofs.look.Reads as look-reads
+use Rattle.search_steps.proofs.single.Reads as single-reads
 use Rattle.domain.proofs.least.Reads as least-reads
 use Rattle.domain.proofs.only_class.Reads as only-class-reads
 use Rattle.domain.proofs.without_class.Reads as without-class-reads

@@ -9,7 +9,7 @@ use borrow.Fn.Kinds.{In}
 use borrow.Fn.PlainCycle.{Measures, is, falls, and}
 use Rattle.sheet.specs.Facts.{ops-most}
 use Rattle.denial.specs.At.{rulesAt}
-use Rattle.tree_nodes.specs.Bounds.{boxOf}
+use Rattle.tree_boxes.specs.Bounds.{boxOf}
 use Rattle.tree_judge.specs.Verdicts.{judges-too-many, judges-malformed, leaf-known, judges-leaf, judges-deep}
 use Rattle.tree_judge.specs.Verdicts.{cut-op, cut-known, judges-first, first-line, judges-second, judges-both}
 use Rattle.tree_judge.proofs.judge_tree.Reads as judge-tree
@@ -19,8 +19,8 @@ use Rattle.tree_judge.proofs.cut_fault.Reads as cut-fault-reads
 use Rattle.tree_judge.proofs.leaf_fault.Reads as leaf-fault-reads
 use Rattle.tree_judge.proofs.stopped_at.Reads as stopped-at-reads
 use Rattle.tree_lines.proofs.read_node.Reads as read-node-reads
-use Rattle.tree_nodes.proofs.above.Reads as above-reads
-use Rattle.tree_nodes.proofs.up_to.Reads as up-to-reads
+use Rattle.tree_boxes.proofs.above.Reads as above-reads
+use Rattle.tree_boxes.proofs.up_to.Reads as up-to-reads
 use Rattle.tree_nodes.proofs.cut_allowed.Reads as cut-allowed-reads
 use Rattle.tree_nodes.proofs.leaf_so.Reads as leaf-so-reads
 use Rattle.tree_judge.proofs.+judge_tree.{statement}

@@ -5,7 +5,7 @@ use native.Mathlib.Omega.{arith}
 use mathlib.Core.Path.{_≡_, refl, sym, _∙_}
 use lib.ListN.{length, take, drop}
 use borrow.Author.Needs.{needs}
-use Rattle.scan.specs.List.{mostItems}
+use Rattle.scan_list.specs.List.{mostItems}
 use Rattle.tree_lines.specs.Node.{allBelow}
 use Rattle.tree_lines.specs.NodeLaws.{below-not, below-next, below-end}
 use Rattle.tree_lines.proofs.all_below.Statement.{statement}

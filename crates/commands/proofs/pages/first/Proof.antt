@@ -7,12 +7,12 @@ use Rattle.sizes.specs.Sizes.{mostOperations}
 use Rattle.text.specs.PutLaws.{weaken}
 use Rattle.sheet.specs.Facts.{ops-most}
 use Rattle.words.specs.declared.Command.the-variants.{Page}
-use Rattle.commands.specs.Shows.{lists}
-use Rattle.commands.specs.Printable.{plan-sized}
-use Rattle.commands.specs.Answers.{put, page-denied}
+use Rattle.command_lines.specs.Shows.{lists}
+use Rattle.command_lines.specs.Printable.{plan-sized}
+use Rattle.command_lines.specs.Answers.{put, page-denied}
 use Rattle.commands.specs.Pages.{first-served}
-use Rattle.commands.specs.Prints.{Serves}
-use Rattle.commands.specs.Prints as prints
+use Rattle.command_lines.specs.Prints.{Serves}
+use Rattle.command_lines.specs.Prints as prints
 use native.Mathlib.Omega.{arith}
 use borrow.Author.Needs.{needs}
 use Rattle.commands.proofs.pages.first.Statement.{statement}

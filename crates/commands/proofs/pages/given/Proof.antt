@@ -3,8 +3,8 @@
 -- lent one whole.
 use mathlib.Core.Path.{sym}
 use lib.Seq.{length-take-le}
-use Rattle.commands.specs.Shows.{lists}
-use Rattle.commands.specs.Answers.{put}
+use Rattle.command_lines.specs.Shows.{lists}
+use Rattle.command_lines.specs.Answers.{put}
 use Rattle.commands.specs.Pages.{page-refused, page-within, given-put}
 use native.Mathlib.Omega.{arith}
 use borrow.Author.Needs.{needs}

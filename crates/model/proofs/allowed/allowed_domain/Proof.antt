@@ -9,7 +9,7 @@ use borrow.Author.Needs.{needs}
 use Rattle.sizes.specs.Sizes.{mostOperations}
 use Rattle.laws.specs.Store.{store-more}
 use Rattle.domain.specs.Domain.{rowOf}
-use Rattle.rules.specs.Starts.{RowFor}
+use Rattle.start_rules.specs.Starts.{RowFor}
 use Rattle.model.proofs.allowed.allowed_domain.Statement.{statement}
 use Rattle.model.proofs.allowed.allowed_domain.Tie as tie
 

@@ -1,4 +1,4 @@
--- `placing_table::all_apart` meets its contract. The invariant: the operations below i are apart; past the table nothing
+-- `placing_table::entries::all_apart` meets its contract. The invariant: the operations below i are apart; past the table nothing
 -- is placed. Assumes nothing.
 use borrow.Author.Needs.{needs}
 use Prim.Native.Nat.{ℕ, _≤_, _<_, _-_}

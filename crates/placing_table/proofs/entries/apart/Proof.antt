@@ -1,4 +1,4 @@
--- `placing_table::apart` meets its contract: it asks nothing of an operation that is not placed.
+-- `placing_table::entries::apart` meets its contract: it asks nothing of an operation that is not placed.
 -- Assumes nothing.
 use mathlib.Core.Path.{sym, _∙_}
 use borrow.Author.Tests.{not-true, not-false}

@@ -1,4 +1,4 @@
--- `placing_table::consistent` meets its contract: each test is one field of the record.
+-- `placing_table::entries::consistent` meets its contract: each test is one field of the record.
 -- Assumes nothing.
 use Rattle.laws.specs.Tests.{stops, passed, last}
 use borrow.Author.Needs.{needs}

@@ -1,4 +1,4 @@
--- `placing_table::entries_allowed` meets its contract. The invariant: the entries below i are allowed; past the table
+-- `placing_table::entries::entries_allowed` meets its contract. The invariant: the entries below i are allowed; past the table
 -- nothing is placed. Assumes nothing.
 use borrow.Author.Needs.{needs}
 use Prim.Native.Nat.{ℕ, _≤_, _<_, _-_}

@@ -1,4 +1,4 @@
--- `placing_table::entry_allowed` meets its contract: what is placed and what is not, by the laws of `Entries`.
+-- `placing_table::entries::entry_allowed` meets its contract: what is placed and what is not, by the laws of `Entries`.
 -- Assumes nothing.
 use native.Mathlib.Omega.{arith}
 use borrow.Author.Tests.{not-true, not-false}

@@ -1,4 +1,4 @@
--- `placing_table::is_free` meets its contract: each test is one field of the record.
+-- `placing_table::free::is_free` meets its contract: each test is one field of the record.
 -- Assumes nothing.
 use Rattle.laws.specs.Tests.{stops, passed, last}
 use borrow.Author.Needs.{needs}

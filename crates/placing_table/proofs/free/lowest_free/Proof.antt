@@ -1,4 +1,4 @@
--- `placing_table::lowest_free` meets its contract. The invariant: no instance below u is free.
+-- `placing_table::free::lowest_free` meets its contract. The invariant: no instance below u is free.
 -- Assumes nothing.
 use borrow.Author.Needs.{needs}
 use Prim.Native.Nat.{_≤_, _-_}

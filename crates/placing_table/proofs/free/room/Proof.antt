@@ -1,4 +1,4 @@
--- `placing_table::room` meets its contract, by the laws of `Vacancies`.
+-- `placing_table::free::room` meets its contract, by the laws of `Vacancies`.
 -- Assumes nothing.
 use Rattle.placing_table.specs.Vacancies.{room-one, room-many}
 use borrow.Author.Needs.{needs}

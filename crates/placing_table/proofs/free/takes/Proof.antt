@@ -1,4 +1,4 @@
--- `placing_table::takes` meets its contract: each test is one field of the record.
+-- `placing_table::free::takes` meets its contract: each test is one field of the record.
 -- Assumes nothing.
 use mathlib.Core.Path.{sym, _∙_}
 use borrow.Author.Tests.{not-true, not-false}

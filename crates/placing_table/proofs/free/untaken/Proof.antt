@@ -1,4 +1,4 @@
--- `placing_table::untaken` meets its contract. The invariant: no operation below j takes the instance; past the table
+-- `placing_table::free::untaken` meets its contract. The invariant: no operation below j takes the instance; past the table
 -- nothing is placed. Assumes nothing.
 use borrow.Author.Needs.{needs}
 use Prim.Native.Nat.{ℕ, _≤_, _<_, _-_}

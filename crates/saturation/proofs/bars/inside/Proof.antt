@@ -6,7 +6,7 @@ use native.Mathlib.Omega.{arith}
 use borrow.Author.Needs.{needs}
 use Rattle.laws.specs.Entry.{vec}
 use Rattle.laws.specs.Count.{tally, tally-none, tally-more}
-use Rattle.saturation.specs.Saturation.{insideB}
+use Rattle.saturation_slots.specs.Saturation.{insideB}
 use Rattle.saturation.proofs.bars.inside.Statement.{statement}
 use Rattle.saturation.proofs.bars.inside.Tie as tie
 

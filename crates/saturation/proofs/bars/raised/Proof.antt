@@ -9,7 +9,7 @@ use borrow.Author.Needs.{needs}
 use Rattle.sizes.specs.Sizes.{mostOperations}
 use Rattle.laws.specs.Entry.{vec}
 use Rattle.laws.specs.Store.{store-more}
-use Rattle.saturation.specs.Saturation.{RaiseOne}
+use Rattle.saturation_slots.specs.Saturation.{RaiseOne}
 use Rattle.saturation.specs.BarLaws.{raised-all}
 use Rattle.saturation.proofs.bars.raised.Statement.{statement}
 use Rattle.saturation.proofs.bars.raised.Tie as tie

@@ -4,7 +4,7 @@ use mathlib.Core.Bool.{false}
 use borrow.Author.Needs.{needs}
 use Rattle.domain.specs.Split.{solved-none}
 use Rattle.task.specs.Plan.{PlanOf}
-use Rattle.search.specs.StepLaws.{told}
+use Rattle.search_steps.specs.StepLaws.{told}
 use Rattle.search.proofs.stages.some_plan.Statement.{statement}
 use Rattle.search.proofs.stages.some_plan.Tie as tie
 

@@ -9,10 +9,10 @@ use lib.IntN.{pos}
 use lib.ListN.{length, getD, take, drop}
 use Rattle.laws.specs.Z.{kept}
 use Rattle.laws.specs.Entry.{at}
-use Rattle.scan.specs.List.{mostItems}
+use Rattle.scan_list.specs.List.{mostItems}
 use Rattle.net.specs.Small.{mostWeight}
 use Rattle.denial.specs.Tree.{Below}
-use Rattle.tree_nodes.specs.Within.{Within, within-zero, within-more, within-fits, within-sum}
+use Rattle.tree_boxes.specs.Within.{Within, within-zero, within-more, within-fits, within-sum}
 use Rattle.tree_nodes.specs.Chain.{Walking, walkFrom, seenWalk}
 use Rattle.tree_nodes.specs.Chain.{walk-on, walk-off, walk-done, front, past, below-first, below-rest}
 use Rattle.tree_nodes.proofs.chain.follow.Statement.{statement}

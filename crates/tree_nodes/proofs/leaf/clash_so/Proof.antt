@@ -8,7 +8,7 @@ use Rattle.laws.specs.Tests.{last, stops, passed}
 use Rattle.plan.specs.Rules.{Overlap}
 use Rattle.denial.specs.Passes.{Clash}
 use Rattle.denial.specs.At.{rulesAt}
-use Rattle.tree_nodes.specs.Bounds.{boxOf}
+use Rattle.tree_boxes.specs.Bounds.{boxOf}
 use Rattle.tree_nodes.specs.Leaves.{Both, clash-both, both-clash, own-says}
 use Rattle.tree_nodes.proofs.leaf.clash_so.Statement.{statement}
 use Rattle.tree_nodes.proofs.leaf.clash_so.Tie as tie

@@ -4,7 +4,7 @@ use native.Mathlib.Omega.{arith}
 use lib.IntN.{pos}
 use borrow.Author.Needs.{needs}
 use Rattle.laws.specs.Z.{kept, cast-kept}
-use Rattle.tree_nodes.specs.Within.{Within, mostBound, within-fits, within-sum}
+use Rattle.tree_boxes.specs.Within.{Within, mostBound, within-fits, within-sum}
 use Rattle.tree_nodes.specs.Leaves.{less-says}
 use Rattle.tree_nodes.proofs.leaf.exceeds.Statement.{statement}
 use Rattle.tree_nodes.proofs.leaf.exceeds.Tie as tie

@@ -9,8 +9,8 @@ use Rattle.sizes.specs.Sizes.{mostOperations}
 use Rattle.laws.specs.Z.{kept, fits32}
 use Rattle.laws.specs.Says.{no-says}
 use Rattle.sheet.specs.Facts.{ops-most}
-use Rattle.tree_nodes.specs.Within.{within-fits}
-use Rattle.tree_nodes.specs.Bounds.{boxOf}
+use Rattle.tree_boxes.specs.Within.{within-fits}
+use Rattle.tree_boxes.specs.Bounds.{boxOf}
 use Rattle.tree_nodes.specs.Leaves.{late-not, late-says}
 use Rattle.tree_nodes.proofs.leaf.late_so.Statement.{statement}
 use Rattle.tree_nodes.proofs.leaf.late_so.Tie as tie

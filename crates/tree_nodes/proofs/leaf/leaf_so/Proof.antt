@@ -4,9 +4,9 @@ use mathlib.Core.Path.{_≡_}
 use native.Mathlib.Omega.{arith}
 use lib.ListN.{length}
 use borrow.Author.Needs.{needs}
-use Rattle.scan.specs.List.{mostItems}
+use Rattle.scan_list.specs.List.{mostItems}
 use Rattle.sheet.specs.Facts.{ops-most}
-use Rattle.tree_nodes.specs.Bounds.{boxOf}
+use Rattle.tree_boxes.specs.Bounds.{boxOf}
 use Rattle.tree_nodes.specs.Leaves.{loop-known, late-known, clash-known, so-loop, so-late, so-clash}
 use Rattle.tree_nodes.proofs.leaf.leaf_so.Statement.{statement}
 use Rattle.tree_nodes.proofs.leaf.leaf_so.Tie as tie

@@ -11,7 +11,7 @@ use borrow.Author.Tests.{not-true, not-false}
 use Rattle.laws.specs.Z.{kept}
 use Rattle.laws.specs.Says.{no-says}
 use Rattle.sheet.specs.Facts.{edges-most, from-below}
-use Rattle.tree_nodes.specs.Within.{within-fits}
+use Rattle.tree_boxes.specs.Within.{within-fits}
 use Rattle.tree_nodes.specs.Chain.{front, below-first}
 use Rattle.tree_nodes.specs.Leaves.{less-says, loop-not, loop-open, loop-says}
 use Rattle.tree_nodes.proofs.leaf.loop_so.Statement.{statement}

@@ -10,7 +10,7 @@ use Rattle.laws.specs.Z.{zed, kept, cast-kept, ltZ-true, ltZ-false}
 use Rattle.laws.specs.Entry.{vec, at}
 use Rattle.laws.specs.Says.{no-says}
 use Rattle.laws.specs.Tests.{last, eq-says}
-use Rattle.tree_nodes.specs.Within.{within-fits}
+use Rattle.tree_boxes.specs.Within.{within-fits}
 use Rattle.tree_nodes.proofs.leaf.pinned.Statement.{statement}
 use Rattle.tree_nodes.proofs.leaf.pinned.Tie as tie
 

@@ -1,0 +1,4 @@
+-- ---- definitions to believe
+pub mod List
+-- ---- laws
+pub mod ListLaws

@@ -1,0 +1,4 @@
+-- ---- definitions to believe
+pub mod Steps
+-- ---- laws
+pub mod StepLaws

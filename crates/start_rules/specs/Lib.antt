@@ -1,0 +1,2 @@
+-- ---- definitions to believe
+pub mod Starts
