@@ -46,11 +46,13 @@ pub record Seated (r : Rules) (b : Box) : Type 0 where
   pub some : (i : ℕ) → i < r .ops → b .first i ≤ b .last i
   pub fixed : (i : ℕ) → i < r .ops → r .instances i ≡ 0 → b .first i ≡ b .last i
 
+-- a tree that passes for a box, and names what is there
 pub record Refuted (r : Rules) (b : Box) : Type 0 where
   pub tree : Tree
   pub known : Known (r .ops) (r .graph .«edge_count») tree
   pub passes : Passes r b tree
 
+-- starts and instances inside a box that keep the rules
 pub record Found (r : Rules) (b : Box) : Type 0 where
   pub t : ℕ → ℕ
   pub u : ℕ → ℕ

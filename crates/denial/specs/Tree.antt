@@ -14,6 +14,7 @@ pub data Leaf : Type 0 where
   late : ℕ → List ℕ → Leaf  -- `late=i` and the edges of a chain from i, perhaps none
   clash : ℕ → ℕ → Leaf  -- `clash=i,j`, and `clash=i,i` of i by itself
 
+-- a tree of such nodes
 pub data Tree : Type 0 where
   leaf : Leaf → Tree
   cut : Cut → Tree → Tree → Tree
@@ -25,15 +26,18 @@ pub data Below (m : ℕ) : List ℕ → Type 0 where
   none : Below m []
   more : {k : ℕ} {ks : List ℕ} → k < m → Below m ks → Below m (k ∷ ks)
 
+-- the operation of a cut is below n
 unfoldable pub CutKnown : ℕ → Cut → Type 0
 CutKnown n (split i v) = i < n
 CutKnown n (seat i k) = i < n
 
+-- the operations of a leaf are below n, its edges below m
 unfoldable pub LeafKnown : ℕ → ℕ → Leaf → Type 0
 LeafKnown n m (loop ks) = Below m ks
 LeafKnown n m (late i ks) = (i < n) × Below m ks
 LeafKnown n m (clash i j) = (i < n) × (j < n)
 
+-- so are those of every node of a tree
 unfoldable pub Known : ℕ → ℕ → Tree → Type 0
 Known n m (leaf x) = LeafKnown n m x
 Known n m (cut c t t') = CutKnown n c × (Known n m t × Known n m t')

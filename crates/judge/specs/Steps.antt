@@ -70,6 +70,7 @@ module _ {s : Sheet} {L n : ℕ} (ok : InRange s) (a : AskedAt s L n) where
 
 -- ---- a text that is no answer
 
+-- 18, with the line at which reading stopped
 abbrev pub unreadableAt : ℕ → Examined
 unreadableAt l = record { answer = 18; line = l }
 

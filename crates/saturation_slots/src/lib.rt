@@ -1,6 +1,8 @@
 // The slots that the starts of each operation are in, for rule 2 of narrowing: rows of slots, how far each operation
 // reaches, and which stretches have been looked at.
-// An inner layer, a crate of its own for the check's time. Callers: `saturation` and `saturation_trims`.
+// An inner layer, a crate of its own for the check's time: its functions ask for counts within the arrays and for slots
+// below the interval. Callers: `saturation` and `saturation_trims`, where `TaskOk` and `CaseOk` give the counts, and the
+// slots are gone through from 0.
 mod slots;
 mod touched;
 

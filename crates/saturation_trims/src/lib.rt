@@ -1,5 +1,6 @@
 // Where a stretch of slots is full, the starts of the other operations in it are taken off.
-// An inner layer, a crate of its own for the check's time. Caller: `saturation`.
+// An inner layer, a crate of its own for the check's time. Caller: `saturation`, with a type of a task whose numbers are
+// within its arrays (`CaseOk`).
 ghost use Prim.Native.Nat.{ℕ, _+_, _≤_, _<_};
 ghost use Rattle.sizes.specs.Sizes.{mostIntervals};
 ghost use Rattle.laws.specs.Entry.{vec};

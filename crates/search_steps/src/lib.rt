@@ -1,6 +1,6 @@
 // One step of the search: what a node looks at, which operation is split, what a search answers, and the descent to the
 // first plan. An inner layer, a crate of its own for the check's time; its functions ask for a task whose numbers are
-// within its arrays (`TaskOk`). Caller: `search`.
+// within its arrays (`TaskOk`), or for operations of it. Caller: `search`, which is itself asked about such a task.
 use sizes::MOST_OPERATIONS;
 
 mod budget;

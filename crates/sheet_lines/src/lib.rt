@@ -1,5 +1,6 @@
 // Reads one line of a loop sheet: question 2, then what the line's entry answers. specs/Kinds.antt has the kinds of
-// lines. A crate of its own for the check's time; callers: `sheet_sections` and `reader`.
+// lines. A crate of its own for the check's time. Callers: `sheet_sections` and `reader`, which begin at the first byte
+// and go on where a line ended, so that each place is within the bytes.
 ghost use Prim.Native.Nat.{_≤_};
 ghost use lib.ListN.{drop, length};
 ghost use Rattle.sheet_lines.specs.Found.{lineFrom};

@@ -1,5 +1,5 @@
 // Reads a section of a loop sheet: the line with a count, then as many lines. sheet_lines/specs/Found.antt says what is
-// found. A crate of its own for the check's time; caller: `reader`.
+// found. A crate of its own for the check's time. Caller: `reader`, with a place within the bytes, as for `sheet_lines`.
 ghost use mathlib.Core.List.{[]};
 ghost use Prim.Native.Nat.{_≤_};
 ghost use lib.ListN.{drop, length};
