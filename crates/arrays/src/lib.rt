@@ -1,4 +1,6 @@
 // Arrays with a place for each of the most operations: what several crates do with them.
+#![tactic(auto)]
+
 ghost use Rattle.arrays.specs.Cut.{Cut};
 
 use sizes::MOST_OPERATIONS;

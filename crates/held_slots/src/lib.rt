@@ -2,6 +2,8 @@
 // slot, whether two starts hold one in common. specs/ has the laws, among them how many operations an instance takes.
 // `meet` answers for any numbers. `offset` and `holds` ask for slots below the interval: their callers, the search and
 // the page, go through the slots of an interval.
+#![tactic(auto)]
+
 ghost use Rattle.std.specs.Prelude.{◌≡◌, ◌<◌};
 ghost use Rattle.laws.specs.Says.{Says};
 ghost use Rattle.held_slots.specs.Held.{Meet, holds_slot, off};

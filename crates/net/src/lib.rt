@@ -5,6 +5,8 @@
 // graph has, which question 3 puts at 1 or more. `Below highest_floor floor` holds as the floor is all 0, or the highest
 // floor at one operation and 0 elsewhere (`lags::peak`), or passed `floor_ok` and then `arrays::cut`, which puts 0 past
 // the operations.
+#![tactic(auto)]
+
 ghost use Rattle.std.specs.Prelude.{◌≡◌, ◌≤◌, pos, ◌+ℤ◌};
 ghost use Rattle.std.specs.Int.Signed.{le_z};
 ghost use Rattle.net.specs.Net.{web_of, NetOk, Below, highest_floor, highest_start};
@@ -13,7 +15,7 @@ ghost use Rattle.net.specs.Starts.{Addable, Pushed, Part, AllMet, Settles};
 use sizes::{MOST_EDGES, MOST_OPERATIONS};
 
 // Edges below `count`, from and to operations below `ops`.
-#[derive(Drop)]
+#[derive(Clone, Copy)]
 pub struct Net {
     pub ops: u8,
     pub count: u8,
@@ -23,7 +25,7 @@ pub struct Net {
 }
 
 // The least starts over a floor, or that a bad closed walk exists.
-#[derive(Drop)]
+#[derive(Clone, Copy)]
 pub struct Settled {
     pub bad: bool,
     pub at: [usize; MOST_OPERATIONS],

@@ -2,6 +2,8 @@
 // as numbers for contracts.
 
 // Operations: the greatest N.
+#![tactic(auto)]
+
 pub const MOST_OPERATIONS: usize = 24;
 
 // Edges: the greatest E.

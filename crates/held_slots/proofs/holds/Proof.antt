@@ -10,7 +10,7 @@ use borrow.Author.Rules.{rules}
 use Rattle.held_slots.proofs.holds.Statement.{statement}
 use Rattle.held_slots.proofs.holds.Tie as tie
 
-rem_offset : tie.Need-nonzero-rem-offset
+rem_offset : tie.Need-nonzero_rem-t
 rem_offset c = search rules
 
 offset_requires : tie.Need-offset-requires

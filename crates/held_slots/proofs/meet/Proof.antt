@@ -9,26 +9,26 @@ use borrow.Author.Rules.{rules}
 use Rattle.held_slots.proofs.meet.Statement.{statement}
 use Rattle.held_slots.proofs.meet.Tie as tie
 
-returns : tie.Need-returns
-returns c = no_says (λ m. omega (arith, c.if1.true, m.first.within))
+returns : tie.Need-returns-then-first-eq0
+returns c = no_says (λ m. omega (arith, c.if-first-eq0.true, m.first.within))
 
-returns_2 : tie.Need-returns-2
-returns_2 c = no_says (λ m. omega (arith, c.if2.true, m.second.within))
+returns_2 : tie.Need-returns-then-second-eq0
+returns_2 c = no_says (λ m. omega (arith, c.if-second-eq0.true, m.second.within))
 
-meet_on_a_line_requires : tie.Need-meet-on-a-line-requires
-meet_on_a_line_requires c κs = (omega (arith, c.before.before.if1.false), omega (arith, c.before.if2.false))
+meet_on_a_line_requires : tie.Need-meet_on_a_line-requires
+meet_on_a_line_requires c κs = (omega (arith, c.before.before.if-first-eq0.false), omega (arith, c.before.if-second-eq0.false))
 
-returns_3 : tie.Need-returns-3
+returns_3 : tie.Need-returns-then-interval-eq0
 returns_3 c =
     let a = c.before.before.before.before.args in
-    subst (λ (l : ℕ). Says (Meet l a.first a.second a.t a.u) c.meet-on-a-line.result) (sym c.before.if3.true) c.meet-on-a-line.ensures
+    subst (λ (l : ℕ). Says (Meet l a.first a.second a.t a.u) c.meet_on_a_line.result) (sym c.before.if-interval-eq0.true) c.meet_on_a_line.ensures
 
-meet_on_a_circle_requires : tie.Need-meet-on-a-circle-requires
+meet_on_a_circle_requires : tie.Need-meet_on_a_circle-requires
 meet_on_a_circle_requires c κs =
-    (omega (arith, c.if3.false), omega (arith, c.before.before.if1.false), omega (arith, c.before.if2.false))
+    (omega (arith, c.if-interval-eq0.false), omega (arith, c.before.before.if-first-eq0.false), omega (arith, c.before.if-second-eq0.false))
 
-returns_4 : tie.Need-returns-4
-returns_4 c = c.meet-on-a-circle.ensures
+returns_4 : tie.Need-returns
+returns_4 c = c.meet_on_a_circle.ensures
 
 pub meet_spec : {M : Type 1} → statement M
 meet_spec = tie.close (tie.spec returns returns_2 meet_on_a_line_requires returns_3 meet_on_a_circle_requires returns_4)

@@ -6,17 +6,17 @@ use borrow.Author.Rules.{rules}
 use Rattle.held_slots.proofs.offset.Statement.{statement}
 use Rattle.held_slots.proofs.offset.Tie as tie
 
-sub_result : tie.Need-overflow-sub-result
+sub_result : tie.Need-overflow_sub-result
 sub_result c = search rules
 
-sub_result_2 : tie.Need-overflow-sub-result-2
+sub_result_2 : tie.Need-overflow_sub-result-then-b-s
 sub_result_2 c = search rules
 
-returns : tie.Need-returns
-returns c = rw (lt-ltb _ _ c.if1.true) (omega (arith, c.if1.true, c.before.requires))
+returns : tie.Need-returns-then-b-s
+returns c = rw (lt-ltb _ _ c.if-b-s.true) (omega (arith, c.if-b-s.true, c.before.requires))
 
-returns_2 : tie.Need-returns-2
-returns_2 c = rw (le-ltb _ _ c.if1.false)
+returns_2 : tie.Need-returns
+returns_2 c = rw (le-ltb _ _ c.if-b-s.false)
 
 pub offset_spec : {M : Type 1} → statement M
 offset_spec = tie.close (tie.spec sub_result sub_result_2 returns returns_2)
