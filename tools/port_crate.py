@@ -5,7 +5,8 @@ usage: tools/port_crate.py NAME..
 
 A Proof.antt cites goals as `tie.Need-x`, steps as `c.before.loop` and arguments as `c.args.t1`. Today's check lists the old
 and the new name of each, `rt check --generated DIR --old-names`, and this writes the new one. Derives `Clone, Copy` on
-each struct and enum that port.py made only `Drop`, and asks for `#![tactic(auto)]`, each once. Safe to run again.
+each struct and enum that port.py made only `Drop`, and asks for `#![tactic(auto)]`, each once. A proof file is turned only
+where it is still as the port left it (BASE), so it is safe to run again; to turn one anew, check it out of BASE.
 """
 
 import json
@@ -14,7 +15,9 @@ import re
 import subprocess
 import sys
 
+BASE = "10d868f"  # the commit in which port.py ran
 ROOT = os.path.dirname(os.path.dirname(os.path.abspath(__file__)))
+NAMES = os.path.join(ROOT, "crates", "out", "names")  # out/ is never committed
 WORD = r"[^\s(){}.;,@\"«»\[\]\\]+"
 
 
@@ -45,7 +48,11 @@ def sources(home):
 
 
 def plain(name):
-    return re.sub(r"^(overflow|nonzero)-", "", name.replace("_", "-"))
+    """A name without what port.py put in front of it."""
+    return re.sub(r"^slice-bounds-", "part-", re.sub(r"^(overflow|nonzero)-", "", name.replace("_", "-")))
+
+
+OWN = {"type-inv": "type_inv", "well-formed": "well_formed", "loan-name": "loan_name"}
 
 
 class Names:
@@ -69,28 +76,55 @@ class Names:
                 return prefix + "-" + self.loops[plain(word[len(prefix) + 1:])]
         return word
 
-    def turn(self, text):
-        text = re.sub(r"\btie\.(%s)" % WORD, lambda m: "tie." + self.of_tie(m[1]), text)
+    def path(self, m):
+        """A path from a place: up by `before`, then a step or `args`, then fields, which keep their names."""
+        root, *parts = m[0].split(".")
+        turned, open_ = [root], True
+        for it in parts:
+            it = OWN.get(it, it)
+            if open_ and it not in ("before", "end"):
+                new = self.steps.get(plain(it), it)
+                open_ = False
+                it = new
+            turned.append(it)
+        return ".".join(turned)
+
+    def turn(self, text, aliases=()):
+        for alias in ("tie", *aliases):
+            text = re.sub(r"(?<![\w.-])%s\.(%s)" % (re.escape(alias), WORD), lambda m: alias + "." + self.of_tie(m[1]), text)
         for old, new in self.args:
             text = re.sub(re.escape(old) + r"(?![\w·'-])", new, text)
-        return re.sub(r"(?<=[\w)'])\.(%s)" % WORD, lambda m: "." + self.steps.get(plain(m[1]), m[1]), text)
+        roots = {"tie", *aliases}
+        path = r"(?<![\w.'-])[a-z][\w']*(?:\.[^\s(){}.;,@\"«»\[\]\\]+)+|(?<=[)}])(?:\.[^\s(){}.;,@\"«»\[\]\\]+)+"
+        return re.sub(path, lambda m: m[0] if m[0].split(".")[0] in roots else self.path(m), text)
 
 
 def spec_named(text, name):
     """The proof of f is f_spec."""
-    return re.sub(r"(?m)^(pub )?%s[-_]spec (?=[:=])" % re.sub("_", "[-_]", re.escape(name)), lambda m: (m[1] or "") + name + "_spec ", text)
+    return re.sub(r"(?m)^(pub )?%s[-_]spec (?=[:=])" % "[-_]".join(re.escape(it) for it in name.split("_")), lambda m: (m[1] or "") + name + "_spec ", text)
+
+
+def at_base(path):
+    shown = subprocess.run(["git", "show", BASE + ":" + os.path.relpath(path, ROOT)], cwd=ROOT, capture_output=True, text=True)
+    return shown.stdout
 
 
 def retie(home, listed):
     for key, given in listed.items():
-        m = re.match(r"Rattle-(\w+)-proofs\.(.*)\.Lts$", key)
+        m = re.match(r"Rattle-(\w+)-proofs\.(.*)\.Lts(?:-(.*))?$", key)
         if not m:
             continue
-        path = os.path.join(home, "proofs", *m[2].split("."), "Proof.antt")
+        folder = m[2].split(".")
+        path = os.path.join(home, "proofs", *folder, "Proof.antt")
         if not os.path.exists(path):
             continue
         old = read(path)
-        text = spec_named(Names(given).turn(old), m[2].split(".")[-1])
+        if old != at_base(path):
+            continue
+        # In a cycle of calls a file has the goals of each function, by a name of its own.
+        use = r"(?m)^use \S+\.Lts-%s as (\S+)" % re.escape(m[3] or "-")
+        aliases = re.findall(use, old)
+        text = spec_named(Names(given).turn(old, aliases), folder[-1])
         if text != old:
             write(path, text)
 
@@ -102,26 +136,26 @@ def rt(home, *words):
 
 def port(name):
     home = os.path.join(ROOT, "crates", name)
-    kept = "/tmp/names/" + name
+    kept = os.path.join(NAMES, name)
     sources(home)
     rt(home, "fmt")
-    if not os.path.exists(kept + "/turned"):
-        os.makedirs(kept, exist_ok=True)
-        said = rt(home, "check", "--generated", kept, "--old-names")
-        if not os.path.exists(kept + "/names.json"):
-            return said
-        retie(home, json.loads(read(kept + "/names.json")))
-        write(kept + "/turned", "")
+    os.makedirs(kept, exist_ok=True)
+    if os.path.exists(kept + "/names.json"):
+        os.remove(kept + "/names.json")
+    said = rt(home, "check", "--generated", kept, "--old-names")
+    if not os.path.exists(kept + "/names.json"):
+        return said
+    retie(home, json.loads(read(kept + "/names.json")))
     return rt(home, "check")
 
 
 def main():
     for name in sys.argv[1:]:
         said = port(name)
-        write("/tmp/names/%s.log" % name, said)
+        write(os.path.join(NAMES, name + ".log"), said)
         proved = re.search(r"(?m)^logic=proved", said)
         errors = [l for l in said.splitlines() if "error" in l]
-        print("%s: %s" % (name, "proved" if proved else "%d errors, /tmp/names/%s.log" % (len(errors), name)), flush=True)
+        print("%s: %s" % (name, "proved" if proved else "%d errors, %s.log" % (len(errors), os.path.join(NAMES, name))), flush=True)
 
 
 if __name__ == "__main__":
