@@ -83,7 +83,9 @@ class Names:
         for it in parts:
             it = OWN.get(it, it)
             if open_ and it not in ("before", "end"):
-                new = self.steps.get(plain(it), it)
+                # respell.py also gave a step the name of a lemma, as `in_class_lem` for the call of `in_class`.
+                lemma = it[:-4] if it.endswith("_lem") else it
+                new = self.steps.get(plain(it), self.steps.get(plain(lemma), it))
                 open_ = False
                 it = new
             turned.append(it)

@@ -4,6 +4,8 @@
 // modulus above 0, `next_class` for a class below its modulus, `only` for a start below MOST_STARTS.
 // Callers: `support`, `saturation`, `seats`, `narrow` and `search`. Their modulus is the task's interval (above 0 by
 // `TaskOk`) or MOST_STARTS, their classes are below it, and their starts are in a row.
+#![tactic(auto)]
+
 ghost use Rattle.std.specs.Prelude.{◌≡◌, true, false, ℕ, ◌+◌, ◌≤◌, ◌<◌};
 ghost use Rattle.sizes.specs.Sizes.{most_starts};
 ghost use Rattle.domain.specs.Domain.{Under, InClass, OffClass, OnlyClass, WithoutClass, NextClass, Below, From, Only, Least, End, Other};

@@ -12,36 +12,36 @@ use Rattle.domain.specs.Domain.{has, Under}
 use Rattle.domain.proofs.below.Statement.{statement}
 use Rattle.domain.proofs.below.Tie as tie
 
-abbrev invariant_loop : tie.invariant_loop
+abbrev invariant_loop : tie.invariant-loop-t
 invariant_loop x row out₀ t₀ out t = (t ≤ most_starts) × (length out ≡ most_starts) × ((k : ℕ) → k < t → Under (has row k) k x (has out k))
 
-abbrev decreases_loop : tie.decreases_loop
+abbrev decreases_loop : tie.decreases-loop-t
 decreases_loop x row out₀ t₀ out t = most_starts - t
 
-loop_holds : tie.Need-loop-init invariant_loop decreases_loop
+loop_holds : tie.Need-loop-t-init invariant_loop decreases_loop
 loop_holds c = (omega arith, search rules, λ k l. absurd (omega arith))
 
-array_read_under : tie.Need-array-read-under invariant_loop decreases_loop
+array_read_under : tie.Need-bounds-row-t invariant_loop decreases_loop
 array_read_under c = search rules
 
 under_requires : tie.Need-under-requires invariant_loop decreases_loop
 under_requires c κs = search rules
 
-array_write_out : tie.Need-array-write-out invariant_loop decreases_loop
+array_write_out : tie.Need-bounds-out-t invariant_loop decreases_loop
 array_write_out c = search rules
 
-add_t : tie.Need-overflow-add-t invariant_loop decreases_loop
+add_t : tie.Need-overflow_add-t invariant_loop decreases_loop
 add_t c = search rules
 
-loop_less : tie.Need-loop-smaller invariant_loop decreases_loop
+loop_less : tie.Need-loop-t-smaller invariant_loop decreases_loop
 loop_less c = search rules
 
-loop_again : tie.Need-loop-preserved invariant_loop decreases_loop
-loop_again c = let s = c.before.before.before in let l = c.before.before.loop in
-    (omega arith, simp length-set l.invariant.1, store_more (λ k z. Under (has s.args.t1 k) k s.args.end z) l.out l.t _ false (omega (arith, l.invariant.1)) c.under.ensures l.invariant.2)
+loop_again : tie.Need-loop-t-preserved invariant_loop decreases_loop
+loop_again c = let s = c.before.before.before in let l = c.before.before.loop-t in
+    (omega arith, simp length-set l.invariant.1, store_more (λ k z. Under (has s.args.row k) k s.args.end z) l.out l.t _ false (omega (arith, l.invariant.1)) c.under.ensures l.invariant.2)
 
 returns : tie.Need-returns invariant_loop decreases_loop
-returns c = let q : (k : ℕ) → k < most_starts → Under (has c.before.before.args.t1 k) k c.before.before.args.end (has c.before.loop.out k) = λ k h. c.before.loop.invariant.2 k (omega arith) in
+returns c = let q : (k : ℕ) → k < most_starts → Under (has c.before.before.args.row k) k c.before.before.args.end (has c.before.loop-t.out k) = λ k h. c.before.loop-t.invariant.2 k (omega arith) in
     record { low = λ t h e b. (q t h).back b e; high = λ t h e b. let y = ((q t h).yes b).1 in omega arith; was = record { part = λ t h b. ((q t h).yes b).0 } }
 
 pub below_spec : {M : Type 1} → statement M

@@ -6,13 +6,13 @@ use Rattle.domain.specs.Rows.{next_inner, next_wraps}
 use Rattle.domain.proofs.next_class.Statement.{statement}
 use Rattle.domain.proofs.next_class.Tie as tie
 
-add_next : tie.Need-overflow-add-next
+add_next : tie.Need-overflow_add-next
 add_next c = search rules
 
-returns : tie.Need-returns
+returns : tie.Need-returns-then-next-modulus
 returns c = next_inner (omega arith)
 
-returns_2 : tie.Need-returns-2
+returns_2 : tie.Need-returns-else-next-modulus
 returns_2 c = next_wraps (omega arith)
 
 pub next_class_spec : {M : Type 1} → statement M

@@ -8,7 +8,7 @@ use Rattle.domain.specs.Rows.{only_set}
 use Rattle.domain.proofs.only.Statement.{statement}
 use Rattle.domain.proofs.only.Tie as tie
 
-array_write_out : tie.Need-array-write-out
+array_write_out : tie.Need-bounds-out-start
 array_write_out c = search rules
 
 returns : tie.Need-returns

@@ -12,36 +12,36 @@ use Rattle.domain.specs.Domain.{has, InClass}
 use Rattle.domain.proofs.only_class.Statement.{statement}
 use Rattle.domain.proofs.only_class.Tie as tie
 
-abbrev invariant_loop : tie.invariant_loop
+abbrev invariant_loop : tie.invariant-loop-t
 invariant_loop s m row out₀ t₀ out t = (t ≤ most_starts) × (length out ≡ most_starts) × ((k : ℕ) → k < t → InClass (has row k) k s m (has out k))
 
-abbrev decreases_loop : tie.decreases_loop
+abbrev decreases_loop : tie.decreases-loop-t
 decreases_loop s m row out₀ t₀ out t = most_starts - t
 
-loop_holds : tie.Need-loop-init invariant_loop decreases_loop
+loop_holds : tie.Need-loop-t-init invariant_loop decreases_loop
 loop_holds c = (omega arith, search rules, λ k l. absurd (omega arith))
 
-array_read_in_class : tie.Need-array-read-in-class invariant_loop decreases_loop
+array_read_in_class : tie.Need-bounds-row-t invariant_loop decreases_loop
 array_read_in_class c = search rules
 
-in_class_requires : tie.Need-in-class-requires invariant_loop decreases_loop
+in_class_requires : tie.Need-in_class-requires invariant_loop decreases_loop
 in_class_requires c κs = search rules
 
-array_write_out : tie.Need-array-write-out invariant_loop decreases_loop
+array_write_out : tie.Need-bounds-out-t invariant_loop decreases_loop
 array_write_out c = search rules
 
-add_t : tie.Need-overflow-add-t invariant_loop decreases_loop
+add_t : tie.Need-overflow_add-t invariant_loop decreases_loop
 add_t c = search rules
 
-loop_less : tie.Need-loop-smaller invariant_loop decreases_loop
+loop_less : tie.Need-loop-t-smaller invariant_loop decreases_loop
 loop_less c = search rules
 
-loop_again : tie.Need-loop-preserved invariant_loop decreases_loop
-loop_again c = let s = c.before.before.before in let l = c.before.before.loop in
-    (omega arith, simp length-set l.invariant.1, store_more (λ k z. InClass (has s.args.t1 k) k s.args.class s.args.modulus z) l.out l.t _ false (omega (arith, l.invariant.1)) c.in_class_lem.ensures l.invariant.2)
+loop_again : tie.Need-loop-t-preserved invariant_loop decreases_loop
+loop_again c = let s = c.before.before.before in let l = c.before.before.loop-t in
+    (omega arith, simp length-set l.invariant.1, store_more (λ k z. InClass (has s.args.row k) k s.args.class s.args.modulus z) l.out l.t _ false (omega (arith, l.invariant.1)) c.in_class.ensures l.invariant.2)
 
 returns : tie.Need-returns invariant_loop decreases_loop
-returns c = let q : (k : ℕ) → k < most_starts → InClass (has c.before.before.args.t1 k) k c.before.before.args.class c.before.before.args.modulus (has c.before.loop.out k) = λ k h. c.before.loop.invariant.2 k (omega arith) in
+returns c = let q : (k : ℕ) → k < most_starts → InClass (has c.before.before.args.row k) k c.before.before.args.class c.before.before.args.modulus (has c.before.loop-t.out k) = λ k h. c.before.loop-t.invariant.2 k (omega arith) in
     record { in_class_lem = λ t h e b. (q t h).back b e; of_class = λ t h b. ((q t h).yes b).1; was = record { part = λ t h b. ((q t h).yes b).0 } }
 
 pub only_class_spec : {M : Type 1} → statement M
