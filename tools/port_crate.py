@@ -136,6 +136,30 @@ def rt(home, *words):
     return done.stdout
 
 
+FIELDS = re.compile(r"(?m)^\.?/?(\S+\.antt):(\d+):\d+: error: .*\.(?:Kept|Last)-\d+` has no field `\d+`(.*)$")
+
+
+def mend_fields(home, said):
+    """What a call leaves of its `&mut` arguments goes by their names, not by their number."""
+    changed = False
+    for m in FIELDS.finditer(said):
+        fields = re.findall(r"`([^`]+)`", m[3].split("(nearest")[0]) or ["out"]  # the usual name, where none is listed
+        path = os.path.join(home, m[1])
+        lines = read(path).split("\n")
+        row = int(m[2]) - 1
+
+        def named(it):
+            at = it[2].count(".1") if it[2].endswith(".0") else len(fields) - 1
+            return it[1] + "." + fields[min(at, len(fields) - 1)]
+
+        new = re.sub(r"(\.(?:auto|new))((?:\.1)*\.0|(?:\.1)+)(?![\w-])", named, lines[row])
+        if new != lines[row]:
+            lines[row] = new
+            write(path, "\n".join(lines))
+            changed = True
+    return changed
+
+
 def port(name):
     home = os.path.join(ROOT, "crates", name)
     kept = os.path.join(NAMES, name)
@@ -148,7 +172,12 @@ def port(name):
     if not os.path.exists(kept + "/names.json"):
         return said
     retie(home, json.loads(read(kept + "/names.json")))
-    return rt(home, "check")
+    said = rt(home, "check")
+    for _ in range(4):
+        if not mend_fields(home, said):
+            break
+        said = rt(home, "check")
+    return said
 
 
 def main():
