@@ -49,7 +49,8 @@ def sources(home):
 
 def plain(name):
     """A name without what port.py put in front of it."""
-    return re.sub(r"^slice-bounds-", "part-", re.sub(r"^(overflow|nonzero)-", "", name.replace("_", "-")))
+    name = re.sub(r"^(overflow|nonzero)-", "", name.replace("_", "-"))
+    return re.sub(r"^bounds-(?=\d+-)", "index-", re.sub(r"^slice-bounds-", "part-", name))
 
 
 OWN = {"type-inv": "type_inv", "well-formed": "well_formed", "loan-name": "loan_name"}
