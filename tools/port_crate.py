@@ -143,6 +143,7 @@ FIELDS = re.compile(r"(?m)^\.?/?(\S+\.antt):(\d+):\d+: error: .*\.(?:Kept|Last)-
 def mend_fields(home, said):
     """What a call leaves of its `&mut` arguments goes by their names, not by their number."""
     changed = False
+    said = said.replace("\n  the fields that", " the fields that")  # a long line goes on in the next
     for m in FIELDS.finditer(said):
         fields = re.findall(r"`([^`]+)`", m[3].split("(nearest")[0]) or ["out"]  # the usual name, where none is listed
         path = os.path.join(home, m[1])
@@ -173,8 +174,9 @@ def port(name):
     if not os.path.exists(kept + "/names.json"):
         return said
     retie(home, json.loads(read(kept + "/names.json")))
+    rt(home, "check")  # the first check after a listing may still read the old names
     said = rt(home, "check")
-    for _ in range(4):
+    for _ in range(8):
         if not mend_fields(home, said):
             break
         said = rt(home, "check")
