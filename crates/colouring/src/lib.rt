@@ -3,6 +3,8 @@
 // An inner layer, a crate of its own for the check's time: its functions ask for a simple graph within its table, and
 // for no more colours than a type may have instances.
 // Caller: `instances`, whose graph of those that clash is so by `clash_graph`.
+#![tactic(auto)]
+
 ghost use Rattle.std.specs.Prelude.{◌≡◌, true, false, ℕ, ◌≤◌, ◌<◌};
 ghost use Rattle.sizes.specs.Sizes.{most_operations, most_instances};
 ghost use Rattle.laws.specs.Entry.{vec};
@@ -32,7 +34,7 @@ pub type Colours = [usize; MOST_OPERATIONS];
 pub type Table = [[bool; MOST_INSTANCES]; MOST_OPERATIONS];
 
 #[repr(C)]
-#[derive(Drop)]
+#[derive(Clone, Copy)]
 pub struct Colouring {
     pub yes: bool,
     pub colours: Colours,

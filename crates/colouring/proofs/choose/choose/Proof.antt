@@ -5,46 +5,46 @@ use borrow.Author.Rules.{rules}
 use Rattle.colouring.proofs.choose.choose.Statement.{statement}
 use Rattle.colouring.proofs.choose.choose.Tie as tie
 
-abbrev invariant_loop : tie.invariant_loop
+abbrev invariant_loop : tie.invariant-loop-i
 invariant_loop n a c done f at₀ least₀ i₀ at least i = i ≤ n
 
-abbrev decreases_loop : tie.decreases_loop
+abbrev decreases_loop : tie.decreases-loop-i
 decreases_loop n a c done f at₀ least₀ i₀ at least i = n - i
 
-loop_holds : tie.Need-loop-init invariant_loop decreases_loop
+loop_holds : tie.Need-loop-i-init invariant_loop decreases_loop
 loop_holds c = search rules
 
-mul_colours_left : tie.Need-overflow-mul-colours-left invariant_loop decreases_loop
+mul_colours_left : tie.Need-offset_bounds-table-i invariant_loop decreases_loop
 mul_colours_left c = search rules
 
-array_copy_out_colours_left : tie.Need-array-copy-out-colours-left invariant_loop decreases_loop
+array_copy_out_colours_left : tie.Need-bounds-table-i invariant_loop decreases_loop
 array_copy_out_colours_left c = search rules
 
-colours_left_requires : tie.Need-colours-left-requires invariant_loop decreases_loop
+colours_left_requires : tie.Need-colours_left-left-requires invariant_loop decreases_loop
 colours_left_requires c κs = search rules
 
-mul_neighbours : tie.Need-overflow-mul-neighbours invariant_loop decreases_loop
+mul_neighbours : tie.Need-offset_bounds-edges-i invariant_loop decreases_loop
 mul_neighbours c = search rules
 
-array_copy_out_neighbours : tie.Need-array-copy-out-neighbours invariant_loop decreases_loop
+array_copy_out_neighbours : tie.Need-bounds-edges-i invariant_loop decreases_loop
 array_copy_out_neighbours c = search rules
 
-neighbours_requires : tie.Need-neighbours-requires invariant_loop decreases_loop
+neighbours_requires : tie.Need-neighbours-most-requires invariant_loop decreases_loop
 neighbours_requires c κs = search rules
 
-array_read_rank : tie.Need-array-read-rank invariant_loop decreases_loop
+array_read_rank : tie.Need-bounds-done-i invariant_loop decreases_loop
 array_read_rank c = search rules
 
-rank_requires : tie.Need-rank-requires invariant_loop decreases_loop
+rank_requires : tie.Need-rank-here-requires invariant_loop decreases_loop
 rank_requires c κs = search rules
 
-add_i : tie.Need-overflow-add-i invariant_loop decreases_loop
+add_i : tie.Need-overflow_add-i invariant_loop decreases_loop
 add_i c = search rules
 
-loop_less : tie.Need-loop-smaller invariant_loop decreases_loop
+loop_less : tie.Need-loop-i-smaller invariant_loop decreases_loop
 loop_less c = search rules
 
-loop_again : tie.Need-loop-preserved invariant_loop decreases_loop
+loop_again : tie.Need-loop-i-preserved invariant_loop decreases_loop
 loop_again c = search rules
 
 returns : tie.Need-returns invariant_loop decreases_loop

@@ -5,31 +5,31 @@ use borrow.Author.Rules.{rules}
 use Rattle.colouring.proofs.choose.colours_left.Statement.{statement}
 use Rattle.colouring.proofs.choose.colours_left.Tie as tie
 
-abbrev invariant_loop : tie.invariant_loop
+abbrev invariant_loop : tie.invariant-loop-v
 invariant_loop a row c₀ v₀ c v = (v ≤ a) × (c ≤ v)
 
-abbrev decreases_loop : tie.decreases_loop
+abbrev decreases_loop : tie.decreases-loop-v
 decreases_loop a row c₀ v₀ c v = a - v
 
-loop_holds : tie.Need-loop-init invariant_loop decreases_loop
+loop_holds : tie.Need-loop-v-init invariant_loop decreases_loop
 loop_holds c = search rules
 
-array_read_bit : tie.Need-array-read-bit invariant_loop decreases_loop
+array_read_bit : tie.Need-bounds-row-v invariant_loop decreases_loop
 array_read_bit c = search rules
 
-bit_requires : tie.Need-bit-requires invariant_loop decreases_loop
+bit_requires : tie.Need-bit-c-requires invariant_loop decreases_loop
 bit_requires c κs = search rules
 
-add_c : tie.Need-overflow-add-c invariant_loop decreases_loop
+add_c : tie.Need-overflow_add-c invariant_loop decreases_loop
 add_c c = search rules
 
-add_v : tie.Need-overflow-add-v invariant_loop decreases_loop
+add_v : tie.Need-overflow_add-v invariant_loop decreases_loop
 add_v c = search rules
 
-loop_less : tie.Need-loop-smaller invariant_loop decreases_loop
+loop_less : tie.Need-loop-v-smaller invariant_loop decreases_loop
 loop_less c = search rules
 
-loop_again : tie.Need-loop-preserved invariant_loop decreases_loop
+loop_again : tie.Need-loop-v-preserved invariant_loop decreases_loop
 loop_again c = search rules
 
 returns : tie.Need-returns invariant_loop decreases_loop

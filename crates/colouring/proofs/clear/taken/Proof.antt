@@ -6,14 +6,14 @@ use Rattle.laws.specs.Z.{true_false}
 use Rattle.colouring.proofs.clear.taken.Statement.{statement}
 use Rattle.colouring.proofs.clear.taken.Tie as tie
 
-returns : tie.Need-returns
-returns c = record { yes = λ e. (c.before.if1.true, c.if2.true, eqb-true _ _ e); no = λ e h. eqb-false _ _ e h.2 }
+returns : tie.Need-returns-then-joined
+returns c = record { yes = λ e. (c.before.if-done.true, c.if-joined.true, eqb-true _ _ e); no = λ e h. eqb-false _ _ e h.2 }
 
-returns_2 : tie.Need-returns-2
-returns_2 c = record { yes = λ e. true_false (sym e); no = λ _ h. true_false (sym h.1 ∙ c.if2.false) }
+returns_2 : tie.Need-returns-else-joined
+returns_2 c = record { yes = λ e. true_false (sym e); no = λ _ h. true_false (sym h.1 ∙ c.if-joined.false) }
 
-returns_3 : tie.Need-returns-3
-returns_3 c = record { yes = λ e. true_false (sym e); no = λ _ h. true_false (sym h.0 ∙ c.if1.false) }
+returns_3 : tie.Need-returns-else-done
+returns_3 c = record { yes = λ e. true_false (sym e); no = λ _ h. true_false (sym h.0 ∙ c.if-done.false) }
 
 pub taken_spec : {M : Type 1} → statement M
 taken_spec = tie.close (tie.spec returns returns_2 returns_3)

@@ -6,17 +6,17 @@ use Rattle.laws.specs.Z.{true_false}
 use Rattle.colouring.proofs.twins.differs.Statement.{statement}
 use Rattle.colouring.proofs.twins.differs.Tie as tie
 
-returns : tie.Need-returns
-returns c = record { no = λ _ d. true_false (sym c.if1.true ∙ d) }
+returns : tie.Need-returns-then-done
+returns c = record { no = λ _ d. true_false (sym c.if-done.true ∙ d) }
 
 bare_requires : tie.Need-bare-requires
 bare_requires c κs = search rules
 
-returns_2 : tie.Need-returns-2
-returns_2 c = record { no = λ e _. c.before.if2.true ∙ sym (c.bare.ensures.1 e) }
+returns_2 : tie.Need-returns-then-a
+returns_2 c = record { no = λ e _. c.before.if-a.true ∙ sym (c.bare.ensures.1 e) }
 
-returns_3 : tie.Need-returns-3
-returns_3 c = record { no = λ e _. c.if2.false ∙ sym e }
+returns_3 : tie.Need-returns
+returns_3 c = record { no = λ e _. c.if-a.false ∙ sym e }
 
 pub differs_spec : {M : Type 1} → statement M
 differs_spec = tie.close (tie.spec returns bare_requires returns_2 returns_3)

@@ -11,53 +11,53 @@ use Rattle.domain.specs.Domain.{has, row_of}
 use Rattle.colouring.proofs.twins.same_column.Statement.{statement}
 use Rattle.colouring.proofs.twins.same_column.Tie as tie
 
-abbrev invariant_loop : tie.invariant_loop
+abbrev invariant_loop : tie.invariant-loop-k
 invariant_loop n v w done f k₀ k = (k ≤ n) × ((j : ℕ) → j < k → has done j ≡ false → has (row_of f j) v ≡ has (row_of f j) w)
 
-abbrev decreases_loop : tie.decreases_loop
+abbrev decreases_loop : tie.decreases-loop-k
 decreases_loop n v w done f k₀ k = n - k
 
-loop_holds : tie.Need-loop-init invariant_loop decreases_loop
+loop_holds : tie.Need-loop-k-init invariant_loop decreases_loop
 loop_holds c = (omega arith, λ j l. absurd (omega arith))
 
-array_read_differs : tie.Need-array-read-differs invariant_loop decreases_loop
+array_read_differs : tie.Need-bounds-done-k invariant_loop decreases_loop
 array_read_differs c = search rules
 
-mul_differs : tie.Need-overflow-mul-differs invariant_loop decreases_loop
+mul_differs : tie.Need-offset_bounds-table-k invariant_loop decreases_loop
 mul_differs c = search rules
 
-index_1_differs : tie.Need-bounds-1-differs invariant_loop decreases_loop
+index_1_differs : tie.Need-bounds-table-k invariant_loop decreases_loop
 index_1_differs c = search rules
 
-index_2_differs : tie.Need-bounds-2-differs invariant_loop decreases_loop
+index_2_differs : tie.Need-bounds-table-v invariant_loop decreases_loop
 index_2_differs c = search rules
 
-mul_differs_2 : tie.Need-overflow-mul-differs-2 invariant_loop decreases_loop
+mul_differs_2 : tie.Need-offset_bounds-table-k-in-loop-k invariant_loop decreases_loop
 mul_differs_2 c = search rules
 
-index_1_differs_2 : tie.Need-bounds-1-differs-2 invariant_loop decreases_loop
+index_1_differs_2 : tie.Need-bounds-table-k-in-loop-k invariant_loop decreases_loop
 index_1_differs_2 c = search rules
 
-index_2_differs_2 : tie.Need-bounds-2-differs-2 invariant_loop decreases_loop
+index_2_differs_2 : tie.Need-bounds-table-w invariant_loop decreases_loop
 index_2_differs_2 c = search rules
 
 differs_requires : tie.Need-differs-requires invariant_loop decreases_loop
 differs_requires c κs = search rules
 
-returns : tie.Need-returns invariant_loop decreases_loop
+returns : tie.Need-returns-then-differs invariant_loop decreases_loop
 returns c = record { yes = λ e. true_false (sym e) }
 
-add_k : tie.Need-overflow-add-k invariant_loop decreases_loop
+add_k : tie.Need-overflow_add-k invariant_loop decreases_loop
 add_k c = search rules
 
-loop_less : tie.Need-loop-smaller invariant_loop decreases_loop
+loop_less : tie.Need-loop-k-smaller invariant_loop decreases_loop
 loop_less c = search rules
 
-loop_again : tie.Need-loop-preserved invariant_loop decreases_loop
-loop_again c = (omega (arith, c.before.before.before.before.loop-test.true), below_more _ _ c.before.before.before.before.before.loop.invariant.1 (λ d. c.before.differs.ensures.no c.if1.false d))
+loop_again : tie.Need-loop-k-preserved invariant_loop decreases_loop
+loop_again c = (omega (arith, c.before.before.before.before.loop-k-test.true), below_more _ _ c.before.before.before.before.before.loop-k.invariant.1 (λ d. c.before.differs.ensures.no c.if-differs.false d))
 
-returns_2 : tie.Need-returns-2 invariant_loop decreases_loop
-returns_2 c = record { yes = λ _ k h. c.before.loop.invariant.1 k (omega (arith, c.loop-test.false)) }
+returns_2 : tie.Need-returns invariant_loop decreases_loop
+returns_2 c = record { yes = λ _ k h. c.before.loop-k.invariant.1 k (omega (arith, c.loop-k-test.false)) }
 
 pub same_column_spec : {M : Type 1} → statement M
 same_column_spec =
