@@ -53,7 +53,7 @@ def plain(name):
     return re.sub(r"^bounds-(?=\d+-)", "index-", re.sub(r"^slice-bounds-", "part-", name))
 
 
-OWN = {"type-inv": "type_inv", "well-formed": "well_formed", "loan-name": "loan_name"}
+OWN = {"type-inv": "type_inv", "well-formed": "well_formed", "loan-name": "loan_name", "branch": "branch-raw"}
 
 
 class Names:

@@ -1,6 +1,6 @@
 -- `arrays::cut` meets its contract: before the place i the numbers are cut, and from there on all are 0.
 -- Assumes nothing.
-use mathlib.Core.Logic.{⊎_elim}
+use Rattle.arrays.proofs.cut.Lts.{then-n-lt-MOST_OPERATIONS, else-n-lt-MOST_OPERATIONS}
 use Prim.Native.Nat.{◌≤◌, ◌-◌}
 use native.Mathlib.Omega.{arith}
 use borrow.Author.Rules.{rules}
@@ -17,7 +17,7 @@ abbrev decreases_loop : tie.decreases-loop-i
 decreases_loop n xs end out₀ i₀ out i = end - i
 
 loop_holds : tie.Need-loop-i-init invariant_loop decreases_loop
-loop_holds c = (omega arith, ⊎_elim (λ w. omega arith) (λ w. omega arith) c.if-n-lt-MOST_OPERATIONS.branch, cut_none _)
+loop_holds c = (omega arith, elim c.if-n-lt-MOST_OPERATIONS.branch [ then-n-lt-MOST_OPERATIONS w ↦ omega arith | else-n-lt-MOST_OPERATIONS w ↦ omega arith ], cut_none _)
 
 mul_out : tie.Need-offset_bounds-xs-i invariant_loop decreases_loop
 mul_out c = search rules
@@ -43,8 +43,10 @@ loop_again c = let l = c.before.loop-i in
 
 returns : tie.Need-returns invariant_loop decreases_loop
 returns c = let l = c.before.loop-i in
-    ⊎_elim (λ w. cut_end (search rules) (omega arith) (λ v h k. omega arith) l.invariant.2)
-    (λ w. cut_end (search rules) (omega arith) (λ v h k. omega arith) l.invariant.2) c.before.before.if-n-lt-MOST_OPERATIONS.branch
+    elim c.before.before.if-n-lt-MOST_OPERATIONS.branch [
+      | then-n-lt-MOST_OPERATIONS w ↦ cut_end (search rules) (omega arith) (λ v h k. omega arith) l.invariant.2
+      | else-n-lt-MOST_OPERATIONS w ↦ cut_end (search rules) (omega arith) (λ v h k. omega arith) l.invariant.2
+    ]
 
 pub cut_spec : {M : Type 1} → statement M
 cut_spec =
