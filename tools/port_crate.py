@@ -92,11 +92,20 @@ class Names:
             turned.append(it)
         return ".".join(turned)
 
+    def args_named(self, text):
+        """The arguments of a declaration that names them first, as in `let s = c.before.args in .. s.t1`."""
+        for name in set(re.findall(r"\blet ([\w']+) = [\w.'-]+\.args in\b", text)):
+            for old, new in self.args:
+                if old.startswith(".args."):
+                    text = re.sub(r"(?<![\w.'-])%s%s(?![\w·'-])" % (re.escape(name), re.escape(old[5:])), name + new[5:], text)
+        return text
+
     def turn(self, text, aliases=()):
         for alias in ("tie", *aliases):
             text = re.sub(r"(?<![\w.-])%s\.(%s)" % (re.escape(alias), WORD), lambda m: alias + "." + self.of_tie(m[1]), text)
         for old, new in self.args:
             text = re.sub(re.escape(old) + r"(?![\w·'-])", new, text)
+        text = "\n\n".join(self.args_named(it) for it in text.split("\n\n"))
         roots = {"tie", *aliases}
         path = r"(?<![\w.'-])[a-z][\w']*(?:\.[^\s(){}.;,@\"«»\[\]\\]+)+|(?<=[)}])(?:\.[^\s(){}.;,@\"«»\[\]\\]+)+"
         return re.sub(path, lambda m: m[0] if m[0].split(".")[0] in roots else self.path(m), text)
@@ -113,6 +122,7 @@ def at_base(path):
 
 
 def retie(home, listed):
+    fresh = {}
     for key, given in listed.items():
         m = re.match(r"Rattle-(\w+)-proofs\.(.*)\.Lts(?:-(.*))?$", key)
         if not m:
@@ -122,7 +132,7 @@ def retie(home, listed):
         if not os.path.exists(path):
             continue
         old = read(path)
-        if old != at_base(path):
+        if not fresh.setdefault(path, old == at_base(path)):
             continue
         # In a cycle of calls a file has the goals of each function, by a name of its own.
         use = r"(?m)^use \S+\.Lts-%s as (\S+)" % re.escape(m[3] or "-")
