@@ -68,8 +68,12 @@ class Names:
 
     def of_tie(self, word):
         for prefix in ("Need-", "Needs-"):
-            if word.startswith(prefix) and plain(word[len(prefix):]) in self.needs:
-                return prefix + self.needs[plain(word[len(prefix):])]
+            if word.startswith(prefix):
+                need = plain(word[len(prefix):])
+                # port.py called an index's goal a bound's.
+                need = need if need in self.needs else re.sub(r"^bounds-", "index-", need)
+                if need in self.needs:
+                    return prefix + self.needs[need]
         if plain(word) in self.places:
             return self.places[plain(word)]
         for prefix in ("invariant", "decreases"):

@@ -1,5 +1,7 @@
 // The bad closed walk with the fewest edges and, among those, the list that is first when compared number by number.
 // An inner layer, a crate of its own for the check's time. Caller: `constraints`, as for `walks`.
+#![tactic(auto)]
+
 ghost use Rattle.std.specs.Prelude.{◌≡◌, List, ℕ, ◌≤◌, ◌<◌, ◌+ℤ◌};
 ghost use Rattle.sizes.specs.Sizes.{most_operations};
 ghost use Rattle.laws.specs.Entry.{at, cell};
@@ -149,7 +151,7 @@ fn walk_from(net: Net, k: usize, e: usize) -> [usize; MOST_OPERATIONS]
 }
 
 // A closed walk: the numbers of its edges, and 0 past them.
-#[derive(Drop)]
+#[derive(Clone, Copy)]
 pub struct Loop {
     pub length: usize,
     pub edges: [usize; MOST_OPERATIONS],

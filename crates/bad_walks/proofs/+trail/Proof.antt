@@ -38,53 +38,53 @@ abbrev callees : ℕ → trail-lts.Claims
 callees t = (pick-reads.Asked, pick-reads.Learnt, trail_below t, trail.Post)
 
 -- the row that was read: the walks of at most left - 1 edges back to v
-abbrev row : (t : ℕ) → trail-lts.After-pick (callees t) (trail_at t) trail.Post → ℕ → ℕ → ℤ
-row t c x y = at (get_or c.before.before.before.args.t2 (c.before.before.before.args.left - 1) []) x
+abbrev row : (t : ℕ) → trail-lts.After-pick-e (callees t) (trail_at t) trail.Post → ℕ → ℕ → ℤ
+row t c x y = at (get_or c.before.before.before.args.back (c.before.before.before.args.left - 1) []) x
 
-row_is : (t : ℕ) (c : trail-lts.After-pick (callees t) (trail_at t) trail.Post) (x : ℕ) → x < most_operations →
-    row t c x c.before.before.before.args.v ≡ rounds (web_of c.before.before.before.args.t1) (c.before.before.before.args.left - 1) x c.before.before.before.args.v
-row_is t c x h = c.before.before.before.requires.1.1.rows _ (omega (arith, c.before.before.if1.false)) x h
+row_is : (t : ℕ) (c : trail-lts.After-pick-e (callees t) (trail_at t) trail.Post) (x : ℕ) → x < most_operations →
+    row t c x c.before.before.before.args.v ≡ rounds (web_of c.before.before.before.args.net) (c.before.before.before.args.left - 1) x c.before.before.before.args.v
+row_is t c x h = c.before.before.before.requires.1.1.rows _ (omega (arith, c.before.before.if-left-eq0.false)) x h
 
 -- what was picked, and that it is an edge
-edge : (t : ℕ) (c : trail-lts.After-pick (callees t) (trail_at t) trail.Post) →
-    Picked (web_of c.before.before.before.args.t1) (row t c) c.before.before.before.args.s c.before.before.before.args.u c.before.before.before.args.v c.pick.result
-edge t c = rw (kept c.before.before.before.ranges.s) at c.pick.ensures
+edge : (t : ℕ) (c : trail-lts.After-pick-e (callees t) (trail_at t) trail.Post) →
+    Picked (web_of c.before.before.before.args.net) (row t c) c.before.before.before.args.s c.before.before.before.args.u c.before.before.before.args.v c.pick-e.result
+edge t c = rw (kept c.before.before.before.ranges.s) at c.pick-e.ensures
 
-is_edge : (t : ℕ) (c : trail-lts.After-pick (callees t) (trail_at t) trail.Post) →
-    c.pick.result < (web_of c.before.before.before.args.t1).count
-is_edge t c = picked c.before.before.before.requires.1.0 c.before.before.if1.false (row t c) (row_is t c) _ (edge t c)
+is_edge : (t : ℕ) (c : trail-lts.After-pick-e (callees t) (trail_at t) trail.Post) →
+    c.pick-e.result < (web_of c.before.before.before.args.net).count
+is_edge t c = picked c.before.before.before.requires.1.0 c.before.before.if-left-eq0.false (row t c) (row_is t c) _ (edge t c)
 
 -- the sum with the edge's weight, as the machine has it
-sum_here : (t : ℕ) (c : trail-lts.After-trail-arg2 (callees t) (trail_at t) trail.Post) →
+sum_here : (t : ℕ) (c : trail-lts.After-trail-arg-2-1 (callees t) (trail_at t) trail.Post) →
     let s = c.before.before.before.before.before in
-    SFits w32 (to_z w32 (of_z w32 s.args.s) +ℤ to_z w32 (of_z w32 ((web_of s.args.t1).weight c.before.before.pick.result)))
+    SFits w32 (to_z w32 (of_z w32 s.args.s) +ℤ to_z w32 (of_z w32 ((web_of s.args.net).weight c.before.before.pick-e.result)))
 sum_here t c =
     let s = c.before.before.before.before.before in
-    let e = c.before.before.pick.result in
-    let z = (web_of s.args.t1).weight e in
+    let e = c.before.before.pick-e.result in
+    let z = (web_of s.args.net).weight e in
     let small = s.requires.1.0.net.small in
     let m = middle s.requires.1.0 in
-    rw (kept s.ranges.s, kept {z = z} (fits32 c.trail-arg2.given))
+    rw (kept s.ranges.s, kept {z = z} (fits32 c.trail-arg-2-1.given))
     (fits_show (omega (arith, zed, sum s.args.s z, m.low, m.high, small.low e (is_edge t c.before.before), small.high e (is_edge t c.before.before)))
     (omega (arith, zed, sum s.args.s z, m.low, m.high, small.low e (is_edge t c.before.before), small.high e (is_edge t c.before.before))))
 
-sum_is : (t : ℕ) (c : trail-lts.After-trail-arg2 (callees t) (trail_at t) trail.Post) →
+sum_is : (t : ℕ) (c : trail-lts.After-trail-arg-2-1 (callees t) (trail_at t) trail.Post) →
     let s = c.before.before.before.before.before in
-    let z = (web_of s.args.t1).weight c.before.before.pick.result in
+    let z = (web_of s.args.net).weight c.before.before.pick-e.result in
     to_z w32 (of_z w32 (to_z w32 (of_z w32 s.args.s) +ℤ to_z w32 (of_z w32 z))) ≡ s.args.s +ℤ z
 sum_is t c =
     let s = c.before.before.before.before.before in
-    kept (sum_here t c) ∙ ap₂ (λ x y. x +ℤ y) (kept s.ranges.s) (kept (fits32 c.trail-arg2.given))
+    kept (sum_here t c) ∙ ap₂ (λ x y. x +ℤ y) (kept s.ranges.s) (kept (fits32 c.trail-arg-2-1.given))
 
-trail_returns : (t : ℕ) → trail-lts.Need-returns (
+trail_returns : (t : ℕ) → trail-lts.Need-returns-then-left-eq0 (
   pick-reads.Asked,
   pick-reads.Learnt,
   trail_below t,
   trail.Post,
 ) (trail_at t) trail.Post
-trail_returns t c = trail_end c.before.requires.1.0 c.if1.true
+trail_returns t c = trail_end c.before.requires.1.0 c.if-left-eq0.true
 
-trail_sub_row : (t : ℕ) → trail-lts.Need-overflow-sub-row (
+trail_sub_row : (t : ℕ) → trail-lts.Need-overflow_sub-row (
   pick-reads.Asked,
   pick-reads.Learnt,
   trail_below t,
@@ -92,7 +92,7 @@ trail_sub_row : (t : ℕ) → trail-lts.Need-overflow-sub-row (
 ) (trail_at t) trail.Post
 trail_sub_row t c = search rules
 
-trail_mul_row : (t : ℕ) → trail-lts.Need-overflow-mul-row (
+trail_mul_row : (t : ℕ) → trail-lts.Need-offset_bounds-back-left (
   pick-reads.Asked,
   pick-reads.Learnt,
   trail_below t,
@@ -100,7 +100,7 @@ trail_mul_row : (t : ℕ) → trail-lts.Need-overflow-mul-row (
 ) (trail_at t) trail.Post
 trail_mul_row t c = search rules
 
-trail_array_copy_out_row : (t : ℕ) → trail-lts.Need-array-copy-out-row (
+trail_array_copy_out_row : (t : ℕ) → trail-lts.Need-bounds-back-left (
   pick-reads.Asked,
   pick-reads.Learnt,
   trail_below t,
@@ -108,7 +108,7 @@ trail_array_copy_out_row : (t : ℕ) → trail-lts.Need-array-copy-out-row (
 ) (trail_at t) trail.Post
 trail_array_copy_out_row t c = search rules
 
-trail_pick_requires : (t : ℕ) → trail-lts.Need-pick-requires (
+trail_pick_requires : (t : ℕ) → trail-lts.Need-pick-e-requires (
   pick-reads.Asked,
   pick-reads.Learnt,
   trail_below t,
@@ -117,9 +117,9 @@ trail_pick_requires : (t : ℕ) → trail-lts.Need-pick-requires (
 trail_pick_requires t c κs = let s = c.before.before in
     let tr = s.requires.1.0 in
     rw (kept s.ranges.s)
-    (tr.net, row_bounded tr.net (s.args.left - 1) s.args.v (omega (arith, tr.room)) (get_or s.args.t2 (s.args.left - 1) []) (λ x h. s.requires.1.1.rows _ (omega (arith, c.before.if1.false)) x h), middle tr)
+    (tr.net, row_bounded tr.net (s.args.left - 1) s.args.v (omega (arith, tr.room)) (get_or s.args.back (s.args.left - 1) []) (λ x h. s.requires.1.1.rows _ (omega (arith, c.before.if-left-eq0.false)) x h), middle tr)
 
-trail_mul_next : (t : ℕ) → trail-lts.Need-overflow-mul-next (
+trail_mul_next : (t : ℕ) → trail-lts.Need-offset_bounds-next-i (
   pick-reads.Asked,
   pick-reads.Learnt,
   trail_below t,
@@ -127,7 +127,7 @@ trail_mul_next : (t : ℕ) → trail-lts.Need-overflow-mul-next (
 ) (trail_at t) trail.Post
 trail_mul_next t c = search rules
 
-trail_array_write_next : (t : ℕ) → trail-lts.Need-array-write-next (
+trail_array_write_next : (t : ℕ) → trail-lts.Need-bounds-next-i (
   pick-reads.Asked,
   pick-reads.Learnt,
   trail_below t,
@@ -135,7 +135,7 @@ trail_array_write_next : (t : ℕ) → trail-lts.Need-array-write-next (
 ) (trail_at t) trail.Post
 trail_array_write_next t c = search rules
 
-trail_add_trail : (t : ℕ) → trail-lts.Need-overflow-add-trail (
+trail_add_trail : (t : ℕ) → trail-lts.Need-overflow_add-i (
   pick-reads.Asked,
   pick-reads.Learnt,
   trail_below t,
@@ -143,7 +143,7 @@ trail_add_trail : (t : ℕ) → trail-lts.Need-overflow-add-trail (
 ) (trail_at t) trail.Post
 trail_add_trail t c = search rules
 
-trail_sub_trail : (t : ℕ) → trail-lts.Need-overflow-sub-trail (
+trail_sub_trail : (t : ℕ) → trail-lts.Need-overflow_sub-left (
   pick-reads.Asked,
   pick-reads.Learnt,
   trail_below t,
@@ -151,7 +151,7 @@ trail_sub_trail : (t : ℕ) → trail-lts.Need-overflow-sub-trail (
 ) (trail_at t) trail.Post
 trail_sub_trail t c = search rules
 
-trail_element_copy_out_trail : (t : ℕ) → trail-lts.Need-element-copy-out-trail (
+trail_element_copy_out_trail : (t : ℕ) → trail-lts.Need-bounds-net-e (
   pick-reads.Asked,
   pick-reads.Learnt,
   trail_below t,
@@ -159,7 +159,7 @@ trail_element_copy_out_trail : (t : ℕ) → trail-lts.Need-element-copy-out-tra
 ) (trail_at t) trail.Post
 trail_element_copy_out_trail t c = omega (arith, is_edge t c, c.before.before.before.requires.1.0.net.count_ok)
 
-trail_mul_trail : (t : ℕ) → trail-lts.Need-overflow-mul-trail (
+trail_mul_trail : (t : ℕ) → trail-lts.Need-offset_bounds-net-e (
   pick-reads.Asked,
   pick-reads.Learnt,
   trail_below t,
@@ -167,7 +167,7 @@ trail_mul_trail : (t : ℕ) → trail-lts.Need-overflow-mul-trail (
 ) (trail_at t) trail.Post
 trail_mul_trail t c = search rules
 
-trail_element_copy_out_trail_2 : (t : ℕ) → trail-lts.Need-element-copy-out-trail-2 (
+trail_element_copy_out_trail_2 : (t : ℕ) → trail-lts.Need-bounds-net-e-2 (
   pick-reads.Asked,
   pick-reads.Learnt,
   trail_below t,
@@ -175,7 +175,7 @@ trail_element_copy_out_trail_2 : (t : ℕ) → trail-lts.Need-element-copy-out-t
 ) (trail_at t) trail.Post
 trail_element_copy_out_trail_2 t c = omega (arith, is_edge t c.before, c.before.before.before.before.requires.1.0.net.count_ok)
 
-trail_add_trail_2 : (t : ℕ) → trail-lts.Need-overflow-add-trail-2 (
+trail_add_trail_2 : (t : ℕ) → trail-lts.Need-overflow_add-s (
   pick-reads.Asked,
   pick-reads.Learnt,
   trail_below t,
@@ -191,12 +191,12 @@ trail_trail_requires : (t : ℕ) → trail-lts.Need-trail-requires (
 ) (trail_at t) trail.Post
 trail_trail_requires t c κs = let s = c.before.before.before.before.before in
     let k = c.before.before in
-    let n = c.before.before.before.before.if1.false in (
+    let n = c.before.before.before.before.if-left-eq0.false in (
       omega (arith, s.requires.0, n),
       (trail_sum (sum_is t c) (trail_next s.requires.1.0 n (row t k) (row_is t k) _ (edge t k)), record { rows = λ r h. s.requires.1.1.rows r (omega (arith, h)) }),
     )
 
-trail_returns_2 : (t : ℕ) → trail-lts.Need-returns-2 (
+trail_returns_2 : (t : ℕ) → trail-lts.Need-returns (
   pick-reads.Asked,
   pick-reads.Learnt,
   trail_below t,
@@ -204,10 +204,10 @@ trail_returns_2 : (t : ℕ) → trail-lts.Need-returns-2 (
 ) (trail_at t) trail.Post
 trail_returns_2 t c = let s = c.before.before.before.before.before.before in
     let k = c.before.before.before in
-    trail_done s.requires.1.0 c.before.before.before.before.before.if1.false (row t k) (row_is t k) _ (edge t k) _ (trailed_sum (sum_is t c.before) c.trail.ensures)
+    trail_done s.requires.1.0 c.before.before.before.before.before.if-left-eq0.false (row t k) (row_is t k) _ (edge t k) _ (trailed_sum (sum_is t c.before) c.trail.ensures)
 
-pub +trail-spec : {M : Type 1} → statement M
-+trail-spec = close μ_trail λ t. trail-lts.spec (
+pub +trail_spec : {M : Type 1} → statement M
++trail_spec = close μ_trail λ t. trail-lts.spec (
   pick-reads.Asked,
   pick-reads.Learnt,
   trail_below t,

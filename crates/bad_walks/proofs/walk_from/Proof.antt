@@ -10,33 +10,33 @@ use Rattle.walks.specs.Trail.{trail_sum, trailed_sum}
 use Rattle.bad_walks.proofs.walk_from.Statement.{statement}
 use Rattle.bad_walks.proofs.walk_from.Tie as tie
 
-array_write_out : tie.Need-array-write-out
+array_write_out : tie.Need-bounds-out-0
 array_write_out c = search rules
 
-element_copy_out_v : tie.Need-element-copy-out-v
+element_copy_out_v : tie.Need-bounds-net-e
 element_copy_out_v c = search rules
 
-cast_backs : tie.Need-overflow-cast-backs
+cast_backs : tie.Need-overflow_cast-v
 cast_backs c = search rules
 
-backs_requires : tie.Need-backs-requires
+backs_requires : tie.Need-backs-back-requires
 backs_requires c κs = let o = c.before.requires in
     (o.net, from_in o.net _ o.in_range_lem, omega (arith, o.few))
 
-element_copy_out_trail : tie.Need-element-copy-out-trail
+element_copy_out_trail : tie.Need-bounds-net-e-2
 element_copy_out_trail c = search rules
 
-mul_trail : tie.Need-overflow-mul-trail
+mul_trail : tie.Need-offset_bounds-net-e
 mul_trail c = search rules
 
-element_copy_out_trail_2 : tie.Need-element-copy-out-trail-2
+element_copy_out_trail_2 : tie.Need-bounds-net-e-3
 element_copy_out_trail_2 c = search rules
 
 trail_requires : tie.Need-trail-requires
-trail_requires c κs = (trail_sum (kept (fits32 c.trail-arg2.given)) (trail_begin _ refl c.before.before.before.before.requires), c.before.before.backs.ensures)
+trail_requires c κs = (trail_sum (kept (fits32 c.trail-arg-2-1.given)) (trail_begin _ refl c.before.before.before.before.requires), c.before.before.backs-back.ensures)
 
 returns : tie.Need-returns
-returns c = opened c.trail.result c.before.before.before.before.before.requires (trailed_sum (kept (fits32 c.before.trail-arg2.given)) c.trail.ensures)
+returns c = opened c.trail.result c.before.before.before.before.before.requires (trailed_sum (kept (fits32 c.before.trail-arg-2-1.given)) c.trail.ensures)
 
 pub walk_from_spec : {M : Type 1} → statement M
 walk_from_spec =
