@@ -4,6 +4,8 @@
 // `seatable` for a limited type.
 // Callers: task::is_plan, and schedule::plan_at for a plan's starts. Their task has its numbers within its arrays
 // (`TaskOk`), and the type has passed a test.
+#![tactic(auto)]
+
 ghost use Rattle.std.specs.Prelude.{◌≡◌, true, false, ℕ, ◌≤◌, ◌<◌};
 ghost use Rattle.sizes.specs.Sizes.{most_operations, most_types, most_instances};
 ghost use Rattle.laws.specs.Entry.{vec};

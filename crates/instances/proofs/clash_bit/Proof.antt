@@ -8,20 +8,20 @@ use Rattle.instances.specs.SeatLaws.{clashes_here}
 use Rattle.instances.proofs.clash_bit.Statement.{statement}
 use Rattle.instances.proofs.clash_bit.Tie as tie
 
-returns : tie.Need-returns
-returns c = no_says (λ s. true_false (sym c.if1.true ∙ s.different))
+returns : tie.Need-returns-then-one
+returns c = no_says (λ s. true_false (sym c.if-one.true ∙ s.different))
 
 meet_requires : tie.Need-meet-requires
 meet_requires c κs = search rules
 
-returns_2 : tie.Need-returns-2
-returns_2 c = clashes_here c.before.before.before.if1.false c.before.before.if2.true c.before.if3.true c.meet.ensures
+returns_2 : tie.Need-returns-then-second-kind
+returns_2 c = clashes_here c.before.before.before.if-one.false c.before.before.if-first-kind.true c.before.if-second-kind.true c.meet.ensures
 
-returns_3 : tie.Need-returns-3
-returns_3 c = no_says (λ s. c.if3.false s.second)
+returns_3 : tie.Need-returns-else-second-kind
+returns_3 c = no_says (λ s. c.if-second-kind.false s.second)
 
-returns_4 : tie.Need-returns-4
-returns_4 c = no_says (λ s. c.if2.false s.first)
+returns_4 : tie.Need-returns-else-first-kind
+returns_4 c = no_says (λ s. c.if-first-kind.false s.first)
 
 pub clash_bit_spec : {M : Type 1} → statement M
 clash_bit_spec = tie.close (tie.spec returns meet_requires returns_2 returns_3 returns_4)

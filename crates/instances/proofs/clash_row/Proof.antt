@@ -16,57 +16,57 @@ use Rattle.instances.specs.SeatLaws.{clashes_bit}
 use Rattle.instances.proofs.clash_row.Statement.{statement}
 use Rattle.instances.proofs.clash_row.Tie as tie
 
-abbrev invariant_loop : tie.invariant_loop
+abbrev invariant_loop : tie.invariant-loop-j
 invariant_loop n l k r i resource x row₀ j₀ row j = (j ≤ n) × (length row ≡ most_operations) × ((m : ℕ) → m < j → Says (Clash (vec resource) (vec x) l k r i m) (has row m))
 
-abbrev decreases_loop : tie.decreases_loop
+abbrev decreases_loop : tie.decreases-loop-j
 decreases_loop n l k r i resource x row₀ j₀ row j = n - j
 
-loop_holds : tie.Need-loop-init invariant_loop decreases_loop
+loop_holds : tie.Need-loop-j-init invariant_loop decreases_loop
 loop_holds c = (omega arith, refl, λ m l. absurd (omega arith))
 
-mul_clash_bit : tie.Need-overflow-mul-clash-bit invariant_loop decreases_loop
+mul_clash_bit : tie.Need-offset_bounds-resource-i invariant_loop decreases_loop
 mul_clash_bit c = search rules
 
-array_read_clash_bit : tie.Need-array-read-clash-bit invariant_loop decreases_loop
+array_read_clash_bit : tie.Need-bounds-resource-i invariant_loop decreases_loop
 array_read_clash_bit c = search rules
 
-mul_clash_bit_2 : tie.Need-overflow-mul-clash-bit-2 invariant_loop decreases_loop
+mul_clash_bit_2 : tie.Need-offset_bounds-resource-j invariant_loop decreases_loop
 mul_clash_bit_2 c = search rules
 
-array_read_clash_bit_2 : tie.Need-array-read-clash-bit-2 invariant_loop decreases_loop
+array_read_clash_bit_2 : tie.Need-bounds-resource-j invariant_loop decreases_loop
 array_read_clash_bit_2 c = search rules
 
-mul_clash_bit_3 : tie.Need-overflow-mul-clash-bit-3 invariant_loop decreases_loop
+mul_clash_bit_3 : tie.Need-offset_bounds-starts-i invariant_loop decreases_loop
 mul_clash_bit_3 c = search rules
 
-array_read_clash_bit_3 : tie.Need-array-read-clash-bit-3 invariant_loop decreases_loop
+array_read_clash_bit_3 : tie.Need-bounds-starts-i invariant_loop decreases_loop
 array_read_clash_bit_3 c = search rules
 
-mul_clash_bit_4 : tie.Need-overflow-mul-clash-bit-4 invariant_loop decreases_loop
+mul_clash_bit_4 : tie.Need-offset_bounds-starts-j invariant_loop decreases_loop
 mul_clash_bit_4 c = search rules
 
-array_read_clash_bit_4 : tie.Need-array-read-clash-bit-4 invariant_loop decreases_loop
+array_read_clash_bit_4 : tie.Need-bounds-starts-j invariant_loop decreases_loop
 array_read_clash_bit_4 c = search rules
 
-clash_bit_requires : tie.Need-clash-bit-requires invariant_loop decreases_loop
+clash_bit_requires : tie.Need-clash_bit-requires invariant_loop decreases_loop
 clash_bit_requires c κs = search rules
 
-array_write_row : tie.Need-array-write-row invariant_loop decreases_loop
+array_write_row : tie.Need-bounds-row-j invariant_loop decreases_loop
 array_write_row c = search rules
 
-add_j : tie.Need-overflow-add-j invariant_loop decreases_loop
+add_j : tie.Need-overflow_add-j invariant_loop decreases_loop
 add_j c = search rules
 
-loop_less : tie.Need-loop-smaller invariant_loop decreases_loop
+loop_less : tie.Need-loop-j-smaller invariant_loop decreases_loop
 loop_less c = search rules
 
-loop_again : tie.Need-loop-preserved invariant_loop decreases_loop
-loop_again c = let s = c.before.before.before.args in let l = c.before.before.loop in
-    (omega (arith, c.before.loop-test.true), simp length-set l.invariant.1, store_more (λ m z. Says (Clash (vec s.t1) (vec s.t2) s.interval s.busy s.kind s.i m) z) l.row l.j _ false (omega (arith, l.invariant.1, c.before.loop-test.true, c.before.before.before.requires.0)) (clashes_bit (vec s.t1) (vec s.t2) s.interval s.busy s.kind s.i l.j c.clash-bit.ensures) l.invariant.2)
+loop_again : tie.Need-loop-j-preserved invariant_loop decreases_loop
+loop_again c = let s = c.before.before.before.args in let l = c.before.before.loop-j in
+    (omega (arith, c.before.loop-j-test.true), simp length-set l.invariant.1, store_more (λ m z. Says (Clash (vec s.resource) (vec s.starts) s.interval s.busy s.kind s.i m) z) l.row l.j _ false (omega (arith, l.invariant.1, c.before.loop-j-test.true, c.before.before.before.requires.0)) (clashes_bit (vec s.resource) (vec s.starts) s.interval s.busy s.kind s.i l.j c.clash_bit.ensures) l.invariant.2)
 
 returns : tie.Need-returns invariant_loop decreases_loop
-returns c = record { each = λ j h. c.before.loop.invariant.2 j (omega (arith, c.loop-test.false)) }
+returns c = record { each = λ j h. c.before.loop-j.invariant.2 j (omega (arith, c.loop-j-test.false)) }
 
 pub clash_row_spec : {M : Type 1} → statement M
 clash_row_spec =

@@ -6,14 +6,14 @@ use Rattle.instances.specs.SeatLaws.{clash_graph, seats_from}
 use Rattle.instances.proofs.type_instances.Statement.{statement}
 use Rattle.instances.proofs.type_instances.Tie as tie
 
-clash_table_requires : tie.Need-clash-table-requires
+clash_table_requires : tie.Need-clash_table-clashes-requires
 clash_table_requires c κs = search rules
 
-first_colouring_requires : tie.Need-first-colouring-requires
-first_colouring_requires c κs = let s = c.before in (s.requires.0, s.requires.2, clash_graph s.args.count (vec s.args.resource) s.args.interval s.args.limit s.args.busy s.args.kind s.requires.1 (vec s.args.starts) _ c.clash-table.ensures)
+first_colouring_requires : tie.Need-first_colouring-found-requires
+first_colouring_requires c κs = let s = c.before in (s.requires.0, s.requires.2, clash_graph s.args.count (vec s.args.resource) s.args.interval s.args.limit s.args.busy s.args.kind s.requires.1 (vec s.args.starts) _ c.clash_table-clashes.ensures)
 
 returns : tie.Need-returns
-returns c = let s = c.before.before.before in seats_from s.args.count (vec s.args.resource) s.args.interval s.args.limit s.args.busy s.args.kind s.requires.1 (vec s.args.starts) _ c.before.before.clash-table.ensures c.before.first-colouring.ensures
+returns c = let s = c.before.before.before in seats_from s.args.count (vec s.args.resource) s.args.interval s.args.limit s.args.busy s.args.kind s.requires.1 (vec s.args.starts) _ c.before.before.clash_table-clashes.ensures c.before.first_colouring-found.ensures
 
 pub type_instances_spec : {M : Type 1} → statement M
 type_instances_spec = tie.close (tie.spec clash_table_requires first_colouring_requires returns)
