@@ -3,6 +3,8 @@
 // arrays (`TaskOk`) and for starts below MOST_STARTS, `count_of` for a count within its array.
 // Callers: `search`, with the least starts of a domain; `saturation` and `seats`, with the operations of a task. The
 // task comes from schedule::plan_at, which proves `TaskOk` from the sheet, or from `relax`, which makes it from that one.
+#![tactic(auto)]
+
 ghost use Rattle.std.specs.Prelude.{◌≡◌, true, false, ℕ, ◌≤◌, ◌<◌, eqb};
 ghost use Rattle.sizes.specs.Sizes.{most_operations, most_types, most_starts};
 ghost use Rattle.laws.specs.Entry.{vec};
@@ -23,7 +25,7 @@ pub const NO_TYPE: usize = MOST_TYPES;
 // the instances of each type (0: unlimited) and the slots that an operation holds its instance.
 // A hint, which promises nothing: `near` marks the pairs whose lags are worth a look.
 #[repr(C)]
-#[derive(Drop)]
+#[derive(Clone, Copy)]
 pub struct Task {
     pub ops: usize,
     pub interval: usize,

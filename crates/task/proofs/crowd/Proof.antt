@@ -10,47 +10,47 @@ use Rattle.held_slots.specs.Seated.{near_w}
 use Rattle.task.proofs.crowd.Statement.{statement}
 use Rattle.task.proofs.crowd.Tie as tie
 
-abbrev invariant_loop : tie.invariant_loop
+abbrev invariant_loop : tie.invariant-loop-i
 invariant_loop resource x n l r s k c₀ i₀ c i = (i ≤ n) × (c ≤ i) × (c ≡ tally i (near_w (vec resource) (vec x) l r s k))
 
-abbrev decreases_loop : tie.decreases_loop
+abbrev decreases_loop : tie.decreases-loop-i
 decreases_loop resource x n l r s k c₀ i₀ c i = n - i
 
-loop_holds : tie.Need-loop-init invariant_loop decreases_loop
+loop_holds : tie.Need-loop-i-init invariant_loop decreases_loop
 loop_holds c = (omega arith, omega arith, sym (tally_none _))
 
-mul_near_bit : tie.Need-overflow-mul-near-bit invariant_loop decreases_loop
+mul_near_bit : tie.Need-offset_bounds-resource-i invariant_loop decreases_loop
 mul_near_bit c = search rules
 
-element_copy_out_near_bit : tie.Need-element-copy-out-near-bit invariant_loop decreases_loop
+element_copy_out_near_bit : tie.Need-bounds-resource-i invariant_loop decreases_loop
 element_copy_out_near_bit c = search rules
 
-mul_near_bit_2 : tie.Need-overflow-mul-near-bit-2 invariant_loop decreases_loop
+mul_near_bit_2 : tie.Need-offset_bounds-starts-i invariant_loop decreases_loop
 mul_near_bit_2 c = search rules
 
-element_copy_out_near_bit_2 : tie.Need-element-copy-out-near-bit-2 invariant_loop decreases_loop
+element_copy_out_near_bit_2 : tie.Need-bounds-starts-i invariant_loop decreases_loop
 element_copy_out_near_bit_2 c = search rules
 
-near_bit_requires : tie.Need-near-bit-requires invariant_loop decreases_loop
+near_bit_requires : tie.Need-near_bit-c-requires invariant_loop decreases_loop
 near_bit_requires c κs = search rules
 
-add_c : tie.Need-overflow-add-c invariant_loop decreases_loop
+add_c : tie.Need-overflow_add-c invariant_loop decreases_loop
 add_c c = search rules
 
-add_i : tie.Need-overflow-add-i invariant_loop decreases_loop
+add_i : tie.Need-overflow_add-i invariant_loop decreases_loop
 add_i c = search rules
 
-loop_less : tie.Need-loop-smaller invariant_loop decreases_loop
+loop_less : tie.Need-loop-i-smaller invariant_loop decreases_loop
 loop_less c = search rules
 
-loop_again : tie.Need-loop-preserved invariant_loop decreases_loop
-loop_again c = let l = c.before.before.before.before.loop in
-    (omega arith, omega arith, ap₂ ◌+◌ l.invariant.2 c.near-bit.ensures.0 ∙ sym (tally_more l.i _))
+loop_again : tie.Need-loop-i-preserved invariant_loop decreases_loop
+loop_again c = let l = c.before.before.before.before.loop-i in
+    (omega arith, omega arith, ap₂ ◌+◌ l.invariant.2 c.near_bit-c.ensures.0 ∙ sym (tally_more l.i _))
 
 returns : tie.Need-returns invariant_loop decreases_loop
 returns c = let a = c.before.before.args in
-    let e : c.before.loop.i ≡ a.count = omega arith in
-    c.before.loop.invariant.2 ∙ ap (λ (k : ℕ). tally k (near_w (vec a.resource.now) (vec a.starts.now) a.interval a.kind a.slot a.busy)) e
+    let e : c.before.loop-i.i ≡ a.count = omega arith in
+    c.before.loop-i.invariant.2 ∙ ap (λ (k : ℕ). tally k (near_w (vec a.resource.now) (vec a.starts.now) a.interval a.kind a.slot a.busy)) e
 
 pub crowd_spec : {M : Type 1} → statement M
 crowd_spec =
