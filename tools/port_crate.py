@@ -115,6 +115,29 @@ class Names:
         return re.sub(path, lambda m: m[0] if m[0].split(".")[0] in roots else self.path(m), text)
 
 
+ATOM = r"\((?:[^()]|\((?:[^()]|\((?:[^()]|\((?:[^()]|\([^()]*\))*\))*\))*\))*\)(?:\.[\w'-]+)*|[A-Za-z][\w']*(?:\.[\w'-]+)+|_"
+AFTER = r"(?:[A-Za-z][\w']*(?:\.[\w'-]+)*)\.(?:true|false)"
+
+
+def stopped(m):
+    """`stops s (λ x. part) e` by the fields of s."""
+    part = re.fullmatch(r"\(λ (\w+)\. (.*)\)", m[2], re.S)
+    x, it = (part[1], part[2]) if part else ("it", m[2] + " it")
+    return "no_says (λ %s. %s.no %s (%s))" % (x, m[1], m[3], it)
+
+
+def untested(text):
+    """After `if !x` today's branch says what x is, and no longer what its denial is."""
+    if re.search(r"(?m)^use \S*\.Tests\.\{.*\b(denied|passed|stops)\b", text):
+        text = re.sub(r"(?<![\w.'-])denied (%s) (?=%s)" % (ATOM, AFTER), r"\1.no ", text)
+        text = re.sub(r"(?<![\w.'-])passed (%s) (?=%s)" % (ATOM, AFTER), r"\1.yes ", text)
+        text, n = re.subn(r"(?<![\w.'-])stops\s+(%s)\s+(%s) (%s)" % (ATOM, ATOM, AFTER), stopped, text)
+        if n and not re.search(r"(?m)^use .*\bno_says\b", text):
+            text = re.sub(r"(?m)^(use \S+\.Tests\.)", r"use Rattle.laws.specs.Says.{no_says}\n\1", text, count=1)
+    text = re.sub(r"\(not-(?:true|false) (?:%s) (%s)\)" % (ATOM, AFTER), r"\1", text)
+    return re.sub(r"(?<![\w.'-])not-(?:true|false) (?:%s) (%s)" % (ATOM, AFTER), r"\1", text)
+
+
 def spec_named(text, name):
     """The proof of f is f_spec."""
     return re.sub(r"(?m)^(pub )?%s[-_]spec (?=[:=])" % "[-_]".join(re.escape(it) for it in name.split("_")), lambda m: (m[1] or "") + name + "_spec ", text)
@@ -141,7 +164,7 @@ def retie(home, listed):
         # In a cycle of calls a file has the goals of each function, by a name of its own.
         use = r"(?m)^use \S+\.Lts-%s as (\S+)" % re.escape(m[3] or "-")
         aliases = re.findall(use, old)
-        text = spec_named(Names(given).turn(old, aliases), folder[-1])
+        text = spec_named(untested(Names(given).turn(old, aliases)), folder[-1])
         if text != old:
             write(path, text)
 
