@@ -5,10 +5,18 @@
 // `commands::answer`, `commands::page_of_plan`, `table_command::answer` and `judge_command::answer`. With words that ask
 // for no command, with lines that are no plan at the interval, and with a line that is no step of a script, it says so
 // on standard error, reads no sheet and prints nothing. What `judge` answers it says on standard error in words, too.
+// A read or a write that fails ends the program with its error.
+#![tactic(auto)]
+
+ghost use Rattle.std.specs.Io.{ReadsAtMost};
+
 use commands::ROOM;
 use judge::LONGEST_ANSWER;
-use libc::{STDIN_FILENO, STDOUT_FILENO};
 use reader::LONGEST_SHEET;
+use std::env::{Env, FillError};
+use std::io::ErrorKind;
+use std::rt::Files;
+use std::{fs, io};
 use table_script::MOST_STEPS;
 use text::Written;
 use words::{Asked, Command, Given, NOTHING};
@@ -27,8 +35,8 @@ const SCRIPT_INPUT: usize = MOST_STEPS * LONGEST_STEP + 1;
 // One byte more than another supplier's answer may have, so that a longer one is told.
 const ANSWER_INPUT: usize = LONGEST_ANSWER + 1;
 
-// Where the second file is read: the lines of a plan, a script, or another supplier's answer.
-const SECOND_FILENO: i32 = 3;
+// Where the second file is read, by its descriptor: the lines of a plan, a script, or another supplier's answer.
+const SECOND_FILE: &str = "/dev/fd/3";
 
 // Room for the name of a command; a longer word is none.
 const LONGEST_NAME: usize = 16;
@@ -39,41 +47,69 @@ const FIRST_ARGUMENT: usize = 2;
 // Bytes of a word and a line feed after it; the longest argument, `interval=9999`, has fewer.
 const WORD_ROOM: usize = 32;
 
-// The word at a place too, as a line; of one that is too long, or missing, the line feed alone, which is no argument.
-fn with_word_at(given: Given, at: usize) -> Given {
+// The word at a place too, as a line; of one that is too long the line feed alone, which is no argument. None where
+// there is no word at the place.
+fn with_word_at(rt: &impl Env, given: Given, at: usize) -> Option<Given> {
     let mut word = [0u8; WORD_ROOM];
-    let n = os::arg(at, &mut word);
-    if WORD_ROOM <= n {
-        return words::with_word(given, b"\n");
+    match rt.arg(at, &mut word) {
+        Ok(n) => {
+            if WORD_ROOM <= n {
+                return Some(words::with_word(given, b"\n"));
+            }
+            word[n] = b'\n';
+            Some(words::with_word(given, &word[..n + 1]))
+        }
+        Err(FillError::TooLong) => Some(words::with_word(given, b"\n")),
+        Err(FillError::NotPresent) => None,
     }
-    word[n] = b'\n';
-    words::with_word(given, &word[..n + 1])
 }
 
 // The words after the command.
-fn arguments() -> Given {
-    let count = os::arg_count();
+fn arguments(rt: &impl Env) -> Given {
     let mut given = NOTHING;
-    for at in FIRST_ARGUMENT..count {
-        given = with_word_at(given, at);
+    for at in FIRST_ARGUMENT..usize::MAX {
+        match with_word_at(rt, given, at) {
+            Some(more) => given = more,
+            None => break,
+        }
     }
     given
 }
 
+// Fills the buffer with the second file, and gives how many bytes it has there: none where the descriptor is closed.
+fn read_second(rt: &impl Files, buffer: &mut [u8]) -> io::Result<usize>
+    ensures { ReadsAtMost result buffer.new }
+{
+    match fs::open(rt, SECOND_FILE) {
+        Ok(mut file) => read_input::fill(&mut file, buffer),
+        Err(error) => {
+            if error.kind() == ErrorKind::NotFound {
+                return Ok(0);
+            }
+            Err(error)
+        }
+    }
+}
+
 // Reads the sheet and prints what the command says of it.
-fn print(command: Command) {
+fn print(rt: &(impl Input + Print), command: Command) -> io::Result<()> {
     let mut input = [0u8; INPUT];
-    let n = io::read_full(STDIN_FILENO, &mut input);
+    let n = read_input::fill(&mut rt.reader(), &mut input)?;
     let mut out = [0u8; ROOM];
     let written: Written = commands::answer(command, &input[..n], &mut out);
     let count = written.count;
-    io::write_all(STDOUT_FILENO, &out[..count]);
+    rt.write_all(&out[..count])
 }
 
 // The same for the page of a plan, by its starts and instances.
-fn print_page(interval: usize, starts: &[usize], instances: &[usize]) {
+fn print_page(
+    rt: &(impl Input + Print),
+    interval: usize,
+    starts: &[usize],
+    instances: &[usize],
+) -> io::Result<()> {
     let mut input = [0u8; INPUT];
-    let n = io::read_full(STDIN_FILENO, &mut input);
+    let n = read_input::fill(&mut rt.reader(), &mut input)?;
     let mut out = [0u8; ROOM];
     let written: Written = commands::page_of_plan(
         &input[..n],
@@ -83,81 +119,84 @@ fn print_page(interval: usize, starts: &[usize], instances: &[usize]) {
         &mut out,
     );
     let count = written.count;
-    io::write_all(STDOUT_FILENO, &out[..count]);
+    rt.write_all(&out[..count])
 }
 
 // Reads the plan, and prints its page if it is one at the interval.
-fn print_page_of_plan(interval: usize) {
+fn print_page_of_plan(
+    rt: &(impl Files + Input + Print + Eprint),
+    interval: usize,
+) -> io::Result<()> {
     let mut input = [0u8; INPUT];
-    let n = io::read_full(SECOND_FILENO, &mut input);
+    let n = read_second(rt, &mut input)?;
     let plan = plan_lines::read(&input[..n]);
     if !plan.ok {
-        told::no_plan(plan.fault);
-        return;
+        return told::no_plan(rt, plan.fault);
     }
     if plan.interval != interval {
-        told::another_interval();
-        return;
+        return told::another_interval(rt);
     }
     let count = plan.count;
     let starts = plan.starts;
     let instances = plan.instances;
-    print_page(interval, &starts[..count], &instances[..count]);
+    print_page(rt, interval, &starts[..count], &instances[..count])
 }
 
 // The same as `print` for a script.
-fn print_table(interval: usize, script: &[u8]) {
+fn print_table(rt: &(impl Input + Print), interval: usize, script: &[u8]) -> io::Result<()> {
     let mut input = [0u8; INPUT];
-    let n = io::read_full(STDIN_FILENO, &mut input);
+    let n = read_input::fill(&mut rt.reader(), &mut input)?;
     let mut out = [0u8; table_command::ROOM];
     let written: Written = table_command::answer(&input[..n], interval, script, &mut out);
     let count = written.count;
-    io::write_all(STDOUT_FILENO, &out[..count]);
+    rt.write_all(&out[..count])
 }
 
 // Reads the script, and prints what its steps are answered if each line is one.
-fn print_table_of_script(interval: usize) {
+fn print_table_of_script(
+    rt: &(impl Files + Input + Print + Eprint),
+    interval: usize,
+) -> io::Result<()> {
     let mut script = [0u8; SCRIPT_INPUT];
-    let n = io::read_full(SECOND_FILENO, &mut script);
+    let n = read_second(rt, &mut script)?;
     let fault = table_script::line_at_fault(&script[..n]);
     if fault != 0 {
-        told::no_step(fault);
-        return;
+        return told::no_step(rt, fault);
     }
-    print_table(interval, &script[..n]);
+    print_table(rt, interval, &script[..n])
 }
 
 // Prints what is answered to another supplier's answer, and says it in words.
-fn print_judged(given: &[u8]) {
+fn print_judged(rt: &(impl Input + Print + Eprint), given: &[u8]) -> io::Result<()> {
     let mut input = [0u8; INPUT];
-    let n = io::read_full(STDIN_FILENO, &mut input);
+    let n = read_input::fill(&mut rt.reader(), &mut input)?;
     let mut out = [0u8; judge_command::ROOM];
     let written: Written = judge_command::answer(&input[..n], given, &mut out);
     let count = written.count;
-    io::write_all(STDOUT_FILENO, &out[..count]);
+    rt.write_all(&out[..count])?;
     let found = judge_command::examine(&input[..n], given);
-    told::judged(given, found.answer, found.line);
+    told::judged(rt, given, found.answer, found.line)
 }
 
 // Reads another supplier's answer, and has it judged.
-fn print_judged_answer() {
+fn print_judged_answer(rt: &(impl Files + Input + Print + Eprint)) -> io::Result<()> {
     let mut given = [0u8; ANSWER_INPUT];
-    let n = io::read_full(SECOND_FILENO, &mut given);
-    print_judged(&given[..n]);
+    let n = read_second(rt, &mut given)?;
+    print_judged(rt, &given[..n])
 }
 
-fn main() {
+fn main(rt: HostRuntime) -> io::Result<()> {
     let mut name = [0u8; LONGEST_NAME];
-    let n = os::arg(1, &mut name);
-    match requests::request(&name[..n], arguments()) {
-        Asked::Do(command) => print(command),
-        Asked::PageOfPlan(interval) => print_page_of_plan(interval),
-        Asked::Table(interval) => print_table_of_script(interval),
-        Asked::Judge => print_judged_answer(),
-        Asked::Unknown => told::unknown(),
-        Asked::Strange => told::strange(),
-        Asked::Missing(argument) => told::fault(argument, b" is missing"),
-        Asked::Twice(argument) => told::fault(argument, b" is given more than once"),
-        Asked::Foreign(argument) => told::fault(argument, b" is no argument of this command"),
+    let n = rt.arg(1, &mut name).unwrap_or(0);
+    match requests::request(&name[..n], arguments(&rt)) {
+        Asked::Do(command) => print(&rt, command),
+        Asked::PageOfPlan(interval) => print_page_of_plan(&rt, interval),
+        Asked::Table(interval) => print_table_of_script(&rt, interval),
+        Asked::Judge => print_judged_answer(&rt),
+        Asked::Unknown => told::unknown(&rt),
+        Asked::Strange => told::strange(&rt),
+        Asked::Missing(argument) => told::fault(&rt, argument, " is missing"),
+        Asked::Twice(argument) => told::fault(&rt, argument, " is given more than once"),
+        Asked::Foreign(argument) => told::fault(&rt, argument, " is no argument of this command"),
     }
 }

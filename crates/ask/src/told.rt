@@ -1,85 +1,91 @@
 // What is said on standard error where the words ask for no command, a line of a plan is none, or a line of a script is
 // no step; and of another supplier's answer, whether it passed or not. `./leastplan` speaks to the person, so its name
 // stands first. The words themselves are not repeated.
-use libc::STDERR_FILENO;
 use plan_lines::MOST_LINES;
+use std::io;
 use table_script::MOST_STEPS;
 use words::INTERVAL;
 
-fn say(text: &[u8]) {
-    io::write_all(STDERR_FILENO, text);
+fn say(rt: &impl Eprint, text: &str) -> io::Result<()> {
+    rt.eprint(text)
 }
 
 // What is named and what is wrong with it, in one line.
-fn line(what: &[u8], wrong: &[u8]) {
-    say(b"leastplan: ");
-    say(what);
-    say(wrong);
-    say(b"; try --help\n");
+fn line(rt: &impl Eprint, what: &str, wrong: &str) -> io::Result<()> {
+    say(rt, "leastplan: ")?;
+    say(rt, what)?;
+    say(rt, wrong)?;
+    say(rt, "; try --help\n")
 }
 
-pub fn unknown() {
-    line(b"unknown command", b"");
+pub fn unknown(rt: &impl Eprint) -> io::Result<()> {
+    line(rt, "unknown command", "")
 }
 
-pub fn strange() {
+pub fn strange(rt: &impl Eprint) -> io::Result<()> {
     line(
-        b"an argument",
-        b" is not name=number, the number one to four digits with no leading zero",
-    );
+        rt,
+        "an argument",
+        " is not name=number, the number one to four digits with no leading zero",
+    )
 }
 
 // What is wrong with an argument, which goes by its number.
-pub fn fault(argument: usize, wrong: &[u8]) {
+pub fn fault(rt: &impl Eprint, argument: usize, wrong: &str) -> io::Result<()> {
     if argument == INTERVAL {
-        line(b"interval=", wrong);
+        line(rt, "interval=", wrong)
     } else {
-        line(b"pair=", wrong);
+        line(rt, "pair=", wrong)
     }
 }
 
 // What is wrong with a line of a file, which goes by its number.
-fn at_line(number: usize, wrong: &[u8]) {
-    say(b"leastplan: line ");
-    io::print_decimal(STDERR_FILENO, number as u64);
-    say(wrong);
-    say(b"\n");
+fn at_line(rt: &impl Eprint, number: usize, wrong: &str) -> io::Result<()> {
+    say(rt, "leastplan: line ")?;
+    rt.eprint(number)?;
+    say(rt, wrong)?;
+    say(rt, "\n")
 }
 
 // The line of a plan that is not as leastplan prints it, or is past the most, by its number.
-pub fn no_plan(number: usize) {
+pub fn no_plan(rt: &impl Eprint, number: usize) -> io::Result<()> {
     if MOST_LINES < number {
         at_line(
+            rt,
             number,
-            b" of the plan is past the 24 lines at=t,u that it may have; try --help",
-        );
+            " of the plan is past the 24 lines at=t,u that it may have; try --help",
+        )
     } else {
         at_line(
+            rt,
             number,
-            b" of the plan is not as in answer=0, interval=L and lines at=t,u, as leastplan prints them; try --help",
-        );
+            " of the plan is not as in answer=0, interval=L and lines at=t,u, as leastplan prints them; try --help",
+        )
     }
 }
 
-pub fn another_interval() {
+pub fn another_interval(rt: &impl Eprint) -> io::Result<()> {
     line(
-        b"the plan",
-        b" is of another interval than the one asked for",
-    );
+        rt,
+        "the plan",
+        " is of another interval than the one asked for",
+    )
 }
 
 // The line of a script that is no step, or is past the most, by its number.
-pub fn no_step(number: usize) {
+pub fn no_step(rt: &impl Eprint, number: usize) -> io::Result<()> {
     if MOST_STEPS < number {
         at_line(
+            rt,
             number,
-            b" of the script is past the 1,024 lines that it may have; try --help",
-        );
+            " of the script is past the 1,024 lines that it may have; try --help",
+        )
     } else {
         at_line(
+            rt,
             number,
-            b" of the script is not offer=op,start, book=op,start,instance or place=op,start; try --help",
-        );
+            " of the script is not offer=op,start, book=op,start,instance or place=op,start; try --help",
+        )
     }
 }
 
@@ -95,36 +101,41 @@ fn is_plan(given: &[u8]) -> bool {
 }
 
 // What passed: the plan or the tree of a denial.
-fn passed(plan: bool) {
+fn passed(rt: &impl Eprint, plan: bool) -> io::Result<()> {
     if plan {
-        say(b"leastplan: the plan keeps every rule\n");
+        say(rt, "leastplan: the plan keeps every rule\n")
     } else {
-        say(b"leastplan: the tree shows that no plan exists at this interval\n");
+        say(
+            rt,
+            "leastplan: the tree shows that no plan exists at this interval\n",
+        )
     }
 }
 
 // A line that is well formed and does not hold.
-fn not_so(plan: bool, number: usize) {
+fn not_so(rt: &impl Eprint, plan: bool, number: usize) -> io::Result<()> {
     if plan {
-        at_line(number, b" of the answer breaks a rule of a plan");
+        at_line(rt, number, " of the answer breaks a rule of a plan")
     } else {
-        at_line(number, b" of the answer is not so");
+        at_line(rt, number, " of the answer is not so")
     }
 }
 
 // What is answered to another supplier's answer, and the line of it at fault.
-pub fn judged(given: &[u8], answer: usize, number: usize) {
+pub fn judged(rt: &impl Eprint, given: &[u8], answer: usize, number: usize) -> io::Result<()> {
     match answer {
-        0 => passed(is_plan(given)),
+        0 => passed(rt, is_plan(given)),
         4 => at_line(
+            rt,
             number,
-            b" of the answer names an interval that is not in 1 to the cap",
+            " of the answer names an interval that is not in 1 to the cap",
         ),
         18 => at_line(
+            rt,
             number,
-            b" of the answer is missing, malformed, or none that may stand there for this sheet",
+            " of the answer is missing, malformed, or none that may stand there for this sheet",
         ),
-        19 => not_so(is_plan(given), number),
-        _ => say(b"leastplan: the sheet is refused; try check\n"),
+        19 => not_so(rt, is_plan(given), number),
+        _ => say(rt, "leastplan: the sheet is refused; try check\n"),
     }
 }

@@ -1,51 +1,64 @@
 // Lines on standard output that only this program prints.
 use dependence::NO_WALK;
-use libc::STDOUT_FILENO;
 use sizes::MOST_OPERATIONS;
+use std::io;
 use test_print::{number, text};
 
-pub fn signed(v: i32) {
+pub fn signed(rt: &impl Print, v: i32) -> io::Result<()> {
     let wide = v as i64;
     if wide < 0 {
-        text(b"-");
-        io::print_decimal(STDOUT_FILENO, (0 - wide) as u64);
+        text(rt, b"-")?;
+        rt.print((0 - wide) as u64)?;
     } else {
-        io::print_decimal(STDOUT_FILENO, wide as u64);
+        rt.print(wide as u64)?;
     }
+    Ok(())
 }
 
 // A key, a number, and the first `count` entries of a list.
-pub fn list(key: &[u8], first: usize, entries: [usize; MOST_OPERATIONS], count: usize) {
-    text(key);
-    number(first);
+pub fn list(
+    rt: &impl Print,
+    key: &[u8],
+    first: usize,
+    entries: [usize; MOST_OPERATIONS],
+    count: usize,
+) -> io::Result<()> {
+    text(rt, key)?;
+    number(rt, first)?;
     for i in 0..MOST_OPERATIONS {
         if i < count {
-            text(b",");
-            number(entries[i]);
+            text(rt, b",")?;
+            number(rt, entries[i])?;
         }
     }
-    text(b"\n");
+    text(rt, b"\n")
 }
 
 // An entry of a row; x where there is no walk.
-fn entry(v: i32) {
+fn entry(rt: &impl Print, v: i32) -> io::Result<()> {
     if v <= NO_WALK {
-        text(b"x");
+        text(rt, b"x")?;
     } else {
-        signed(v);
+        signed(rt, v)?;
     }
+    Ok(())
 }
 
 // A key and the first `count` entries of a row.
-pub fn row(key: &[u8], entries: [i32; MOST_OPERATIONS], count: usize) {
-    text(key);
+pub fn row(
+    rt: &impl Print,
+    key: &[u8],
+    entries: [i32; MOST_OPERATIONS],
+    count: usize,
+) -> io::Result<()> {
+    text(rt, key)?;
     for i in 0..MOST_OPERATIONS {
         if i < count {
             if 0 < i {
-                text(b",");
+                text(rt, b",")?;
             }
-            entry(entries[i]);
+            entry(rt, entries[i])?;
         }
     }
-    text(b"\n");
+    text(rt, b"\n")
 }

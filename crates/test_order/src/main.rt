@@ -1,9 +1,14 @@
 // Compares the two schedules on each line of standard input, and prints the verdict.
 // A line has a count, then starts and instances of the first schedule, then those of the second; a space stands before
 // each list of 24. Each number is one character: its code less that of 0. A tilde is the greatest number there is.
-use libc::{STDIN_FILENO, STDOUT_FILENO};
+#![tactic(auto)]
+
 use plan::{Schedule, Verdict};
 use sizes::MOST_OPERATIONS;
+use std::io;
+
+// The most bytes of standard input that are looked at.
+const INPUT: usize = 65536;
 
 // The bytes of a line with its line feed.
 const LINE: usize = 102;
@@ -39,17 +44,17 @@ fn numbers(s: &[u8]) -> [usize; MOST_OPERATIONS] {
     list
 }
 
-fn print(verdict: Verdict) {
+fn print(rt: &impl Print, verdict: Verdict) -> io::Result<()> {
     match verdict {
-        Verdict::Before => io::write_all(STDOUT_FILENO, b"before\n"),
-        Verdict::Equal => io::write_all(STDOUT_FILENO, b"equal\n"),
-        Verdict::After => io::write_all(STDOUT_FILENO, b"after\n"),
-    };
+        Verdict::Before => rt.write_all(b"before\n"),
+        Verdict::Equal => rt.write_all(b"equal\n"),
+        Verdict::After => rt.write_all(b"after\n"),
+    }
 }
 
-fn answer(line: &[u8]) {
+fn answer(rt: &impl Print, line: &[u8]) -> io::Result<()> {
     if line.len() < LINE {
-        return;
+        return Ok(());
     }
     let first = Schedule {
         starts: numbers(&line[FIRST_STARTS..]),
@@ -59,20 +64,21 @@ fn answer(line: &[u8]) {
         starts: numbers(&line[SECOND_STARTS..]),
         instances: numbers(&line[SECOND_INSTANCES..]),
     };
-    print(plan::compare(number(line[0]), first, second));
+    print(rt, plan::compare(number(line[0]), first, second))
 }
 
-fn answer_all(input: &[u8]) {
+fn answer_all(rt: &impl Print, input: &[u8]) -> io::Result<()> {
     let mut at: usize = 0;
     while LINE <= input.len() - at {
         let next = at + LINE;
-        answer(&input[at..next]);
+        answer(rt, &input[at..next])?;
         at = next;
     }
+    Ok(())
 }
 
-fn main() {
-    let mut input = io::large_buffer();
-    let n = io::read_full(STDIN_FILENO, &mut input);
-    answer_all(&input[..n]);
+fn main(rt: HostRuntime) -> io::Result<()> {
+    let mut input = [0u8; INPUT];
+    let n = read_input::fill(&mut rt.reader(), &mut input)?;
+    answer_all(&rt, &input[..n])
 }

@@ -2,50 +2,51 @@
 use placing::OfferAnswer;
 use placing_table::{Placement, Table};
 use sizes::MOST_OPERATIONS;
+use std::io;
 use test_print::{number, text};
 
-fn flag(yes: bool) {
+fn flag(rt: &impl Print, yes: bool) -> io::Result<()> {
     if yes {
-        text(b"1");
-        return;
+        text(rt, b"1")?;
+        return Ok(());
     }
-    text(b"0");
+    text(rt, b"0")
 }
 
 // The answer of a new table.
-pub fn made(answer: usize) {
-    test_print::line(b"new=", answer);
+pub fn made(rt: &impl Print, answer: usize) -> io::Result<()> {
+    test_print::line(rt, b"new=", answer)
 }
 
 // Whether a table is consistent.
-pub fn verdict(consistent: bool) {
-    text(b"consistent=");
-    flag(consistent);
-    text(b"\n");
+pub fn verdict(rt: &impl Print, consistent: bool) -> io::Result<()> {
+    text(rt, b"consistent=")?;
+    flag(rt, consistent)?;
+    text(rt, b"\n")
 }
 
 // The answer of a placing, and the instance.
-pub fn placed(answer: usize, instance: usize) {
-    test_print::pair(b"place=", answer, instance);
+pub fn placed(rt: &impl Print, answer: usize, instance: usize) -> io::Result<()> {
+    test_print::pair(rt, b"place=", answer, instance)
 }
 
 // The same of a booking.
-pub fn booked(answer: usize, instance: usize) {
-    test_print::pair(b"book=", answer, instance);
+pub fn booked(rt: &impl Print, answer: usize, instance: usize) -> io::Result<()> {
+    test_print::pair(rt, b"book=", answer, instance)
 }
 
 // The answer of an offer, and what it names.
-pub fn offered(given: OfferAnswer) {
+pub fn offered(rt: &impl Print, given: OfferAnswer) -> io::Result<()> {
     let offer = given.offer;
-    text(b"offer=");
-    number(given.answer);
-    text(b",");
-    number(offer.operation);
-    text(b",");
-    number(offer.start);
-    text(b",");
-    number(offer.instance);
-    text(b"\n");
+    text(rt, b"offer=")?;
+    number(rt, given.answer)?;
+    text(rt, b",")?;
+    number(rt, offer.operation)?;
+    text(rt, b",")?;
+    number(rt, offer.start)?;
+    text(rt, b",")?;
+    number(rt, offer.instance)?;
+    text(rt, b"\n")
 }
 
 fn is_nothing(p: Placement) -> bool {
@@ -53,25 +54,26 @@ fn is_nothing(p: Placement) -> bool {
 }
 
 // An entry, unless all of it is 0.
-fn entry(i: usize, p: Placement) {
+fn entry(rt: &impl Print, i: usize, p: Placement) -> io::Result<()> {
     if is_nothing(p) {
-        return;
+        return Ok(());
     }
-    text(b"entry=");
-    number(i);
-    text(b",");
-    flag(p.placed);
-    text(b",");
-    number(p.start);
-    text(b",");
-    number(p.instance);
-    text(b"\n");
+    text(rt, b"entry=")?;
+    number(rt, i)?;
+    text(rt, b",")?;
+    flag(rt, p.placed)?;
+    text(rt, b",")?;
+    number(rt, p.start)?;
+    text(rt, b",")?;
+    number(rt, p.instance)?;
+    text(rt, b"\n")
 }
 
 // The entries of a table; those that are not printed are all 0.
-pub fn table(all: Table) {
+pub fn table(rt: &impl Print, all: Table) -> io::Result<()> {
     for i in 0..MOST_OPERATIONS {
         let p = all.entries[i];
-        entry(i, p);
+        entry(rt, i, p)?;
     }
+    Ok(())
 }

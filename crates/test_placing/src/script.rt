@@ -13,6 +13,7 @@ use placing_table::{Placement, Table};
 use scan::read_line;
 use sheet::Sheet;
 use sizes::MOST_OPERATIONS;
+use std::io;
 
 // No number of a line may carry a minus.
 const NO_MINUS: usize = 8;
@@ -42,10 +43,10 @@ fn empty() -> Table {
     }
 }
 
-fn made(sheet: Sheet, interval: usize) -> Table {
+fn made(rt: &impl Print, sheet: Sheet, interval: usize) -> io::Result<Table> {
     let new = placing::new_table(sheet, interval);
-    print::made(new.answer);
-    new.table
+    print::made(rt, new.answer)?;
+    Ok(new.table)
 }
 
 fn written(table: Table, i: usize, p: Placement) -> Table {
@@ -57,27 +58,40 @@ fn written(table: Table, i: usize, p: Placement) -> Table {
     Table { entries }
 }
 
-fn placed(sheet: Sheet, interval: usize, table: Table, op: usize, start: usize) -> Table {
+fn placed(
+    rt: &impl Print,
+    sheet: Sheet,
+    interval: usize,
+    table: Table,
+    op: usize,
+    start: usize,
+) -> io::Result<Table> {
     let answer = placing::place(sheet, interval, table, op, start);
-    print::placed(answer.answer, answer.instance);
-    answer.table
+    print::placed(rt, answer.answer, answer.instance)?;
+    Ok(answer.table)
 }
 
-fn booked(sheet: Sheet, interval: usize, table: Table, offer: Offer) -> Table {
+fn booked(
+    rt: &impl Print,
+    sheet: Sheet,
+    interval: usize,
+    table: Table,
+    offer: Offer,
+) -> io::Result<Table> {
     let answer = placing::book(sheet, interval, table, offer);
-    print::booked(answer.answer, answer.instance);
-    answer.table
+    print::booked(rt, answer.answer, answer.instance)?;
+    Ok(answer.table)
 }
 
 // The lines that hand in a table or a part of it.
-fn handed_in(sheet: Sheet, table: Table, s: &[u8], at: usize) -> Step {
+fn handed_in(rt: &impl Print, sheet: Sheet, table: Table, s: &[u8], at: usize) -> io::Result<Step> {
     let new = read_line(s, at, b"new=", 1, NO_MINUS);
     if new.ok {
         let v = new.values;
-        return Step {
+        return Ok(Step {
             next: new.next,
-            table: made(sheet, count_of(v[0])),
-        };
+            table: made(rt, sheet, count_of(v[0]))?,
+        });
     }
     let entry = read_line(s, at, b"entry=", 4, NO_MINUS);
     if entry.ok {
@@ -87,23 +101,30 @@ fn handed_in(sheet: Sheet, table: Table, s: &[u8], at: usize) -> Step {
             start: count_of(v[2]),
             instance: count_of(v[3]),
         };
-        return Step {
+        return Ok(Step {
             next: entry.next,
             table: written(table, count_of(v[0]), p),
-        };
+        });
     }
-    Step { next: 0, table }
+    Ok(Step { next: 0, table })
 }
 
 // The lines that put an operation in.
-fn put_in(sheet: Sheet, table: Table, s: &[u8], at: usize) -> Step {
+fn put_in(rt: &impl Print, sheet: Sheet, table: Table, s: &[u8], at: usize) -> io::Result<Step> {
     let place = read_line(s, at, b"place=", 3, NO_MINUS);
     if place.ok {
         let v = place.values;
-        return Step {
+        return Ok(Step {
             next: place.next,
-            table: placed(sheet, count_of(v[0]), table, count_of(v[1]), count_of(v[2])),
-        };
+            table: placed(
+                rt,
+                sheet,
+                count_of(v[0]),
+                table,
+                count_of(v[1]),
+                count_of(v[2]),
+            )?,
+        });
     }
     let book = read_line(s, at, b"book=", 4, NO_MINUS);
     if book.ok {
@@ -113,64 +134,62 @@ fn put_in(sheet: Sheet, table: Table, s: &[u8], at: usize) -> Step {
             start: count_of(v[2]),
             instance: count_of(v[3]),
         };
-        return Step {
+        return Ok(Step {
             next: book.next,
-            table: booked(sheet, count_of(v[0]), table, offer),
-        };
+            table: booked(rt, sheet, count_of(v[0]), table, offer)?,
+        });
     }
-    Step { next: 0, table }
+    Ok(Step { next: 0, table })
 }
 
 // The lines that ask about the table: the place after the line, 0 where there is none.
-fn asked(sheet: Sheet, table: Table, s: &[u8], at: usize) -> usize {
+fn asked(rt: &impl Print, sheet: Sheet, table: Table, s: &[u8], at: usize) -> io::Result<usize> {
     let consistent = read_line(s, at, b"consistent=", 1, NO_MINUS);
     if consistent.ok {
         let v = consistent.values;
-        print::verdict(placing_table::consistent(sheet, count_of(v[0]), table));
-        return consistent.next;
+        print::verdict(rt, placing_table::consistent(sheet, count_of(v[0]), table))?;
+        return Ok(consistent.next);
     }
     let offer = read_line(s, at, b"offer=", 3, NO_MINUS);
     if offer.ok {
         let v = offer.values;
-        print::offered(placing::make_offer(
-            sheet,
-            count_of(v[0]),
-            table,
-            count_of(v[1]),
-            count_of(v[2]),
-        ));
-        return offer.next;
+        print::offered(
+            rt,
+            placing::make_offer(sheet, count_of(v[0]), table, count_of(v[1]), count_of(v[2])),
+        )?;
+        return Ok(offer.next);
     }
     let whole = read_line(s, at, b"table=", 1, NO_MINUS);
     if whole.ok {
-        print::table(table);
-        return whole.next;
+        print::table(rt, table)?;
+        return Ok(whole.next);
     }
-    0
+    Ok(0)
 }
 
-fn line(sheet: Sheet, table: Table, s: &[u8], at: usize) -> Step {
-    let next = asked(sheet, table, s, at);
+fn line(rt: &impl Print, sheet: Sheet, table: Table, s: &[u8], at: usize) -> io::Result<Step> {
+    let next = asked(rt, sheet, table, s, at)?;
     if at < next {
-        return Step { next, table };
+        return Ok(Step { next, table });
     }
-    let step = handed_in(sheet, table, s, at);
+    let step = handed_in(rt, sheet, table, s, at)?;
     if at < step.next {
-        return step;
+        return Ok(step);
     }
-    put_in(sheet, table, s, at)
+    put_in(rt, sheet, table, s, at)
 }
 
-pub fn run(sheet: Sheet, s: &[u8]) {
+pub fn run(rt: &impl Print, sheet: Sheet, s: &[u8]) -> io::Result<()> {
     let mut table = empty();
     let mut at: usize = 0;
     while at < s.len() {
-        let done = line(sheet, table, s, at);
+        let done = line(rt, sheet, table, s, at)?;
         if done.next <= at {
-            return;
+            return Ok(());
         }
         let next = done.table;
         table = next;
         at = done.next;
     }
+    Ok(())
 }

@@ -1,35 +1,38 @@
 // Prints for each piece of standard input, a sheet, what leastplan prints for it.
-use libc::{STDIN_FILENO, STDOUT_FILENO};
+#![tactic(auto)]
+
+use std::io;
 
 // The most bytes of standard input that are looked at.
 const INPUT: usize = 524288;
 
 // Answers the piece at `at`, and gives the place after it; 0 where there is none.
-fn answer(input: &[u8], at: usize) -> usize {
+fn answer(rt: &impl Print, input: &[u8], at: usize) -> io::Result<usize> {
     let piece = test_frames::next(input, at);
     if !piece.ok {
-        return 0;
+        return Ok(0);
     }
     let start = piece.start;
     let end = piece.end;
-    io::write_all(STDOUT_FILENO, b"--\n");
-    printing::print_report(&input[start..end]);
-    end
+    rt.write_all(b"--\n")?;
+    printing::print_report(rt, &input[start..end])?;
+    Ok(end)
 }
 
-fn answer_all(input: &[u8]) {
+fn answer_all(rt: &impl Print, input: &[u8]) -> io::Result<()> {
     let mut at: usize = 0;
     while at < input.len() {
-        let next = answer(input, at);
+        let next = answer(rt, input, at)?;
         if next <= at {
-            return;
+            return Ok(());
         }
         at = next;
     }
+    Ok(())
 }
 
-fn main() {
+fn main(rt: HostRuntime) -> io::Result<()> {
     let mut input = [0u8; INPUT];
-    let n = io::read_full(STDIN_FILENO, &mut input);
-    answer_all(&input[..n]);
+    let n = read_input::fill(&mut rt.reader(), &mut input)?;
+    answer_all(&rt, &input[..n])
 }

@@ -1,34 +1,37 @@
 // What the test programs print by: text, numbers and lines on standard output. No contract can say what is written; the
-// functions are proved safe.
-use libc::STDOUT_FILENO;
+// functions are proved safe. Each gives the error of a write that fails.
+#![tactic(auto)]
 
-pub fn text(s: &[u8]) {
-    io::write_all(STDOUT_FILENO, s);
+use std::io;
+
+pub fn text(rt: &impl Print, s: &[u8]) -> io::Result<()> {
+    rt.write_all(s)
 }
 
-pub fn number(n: usize) {
-    io::print_decimal(STDOUT_FILENO, n as u64);
+pub fn number(rt: &impl Print, n: usize) -> io::Result<()> {
+    rt.print(n)
 }
 
 // The first n bytes, where there are so many.
-pub fn front(s: &[u8], n: usize) {
+pub fn front(rt: &impl Print, s: &[u8], n: usize) -> io::Result<()> {
     if n <= s.len() {
-        text(&s[..n]);
+        text(rt, &s[..n])?;
     }
+    Ok(())
 }
 
 // A key and a number.
-pub fn line(key: &[u8], n: usize) {
-    text(key);
-    number(n);
-    text(b"\n");
+pub fn line(rt: &impl Print, key: &[u8], n: usize) -> io::Result<()> {
+    text(rt, key)?;
+    number(rt, n)?;
+    text(rt, b"\n")
 }
 
 // A key and two numbers.
-pub fn pair(key: &[u8], first: usize, second: usize) {
-    text(key);
-    number(first);
-    text(b",");
-    number(second);
-    text(b"\n");
+pub fn pair(rt: &impl Print, key: &[u8], first: usize, second: usize) -> io::Result<()> {
+    text(rt, key)?;
+    number(rt, first)?;
+    text(rt, b",")?;
+    number(rt, second)?;
+    text(rt, b"\n")
 }
