@@ -15,8 +15,11 @@ import re
 import subprocess
 import sys
 
+import goal_paths
+
 BASE = "10d868f"  # the commit in which port.py ran
 ROOT = os.path.dirname(os.path.dirname(os.path.abspath(__file__)))
+plain = goal_paths.plain
 NAMES = os.path.join(ROOT, "crates", "out", "names")  # out/ is never committed
 WORD = r"[^\s(){}.;,@\"«»\[\]\\]+"
 
@@ -45,12 +48,6 @@ def sources(home):
             text = text[:at] + "#![tactic(auto)]\n\n" + text[at:]
         if text != old:
             write(path, text)
-
-
-def plain(name):
-    """A name without what port.py put in front of it."""
-    name = re.sub(r"^(overflow|nonzero)-", "", name.replace("_", "-"))
-    return re.sub(r"^bounds-(?=\d+-)", "index-", re.sub(r"^slice-bounds-", "part-", name))
 
 
 OWN = {"type-inv": "type_inv", "well-formed": "well_formed", "loan-name": "loan_name", "branch": "branch-raw"}
@@ -109,10 +106,12 @@ class Names:
             text = re.sub(r"(?<![\w.-])%s\.(%s)" % (re.escape(alias), WORD), lambda m: alias + "." + self.of_tie(m[1]), text)
         for old, new in self.args:
             text = re.sub(re.escape(old) + r"(?![\w·'-])", new, text)
-        text = "\n\n".join(self.args_named(it) for it in text.split("\n\n"))
-        roots = {"tie", *aliases}
+        return "\n\n".join(self.args_named(it) for it in text.split("\n\n"))
+
+    def by_name(self, text):
+        """A declaration whose place is not known: its steps by their names."""
         path = r"(?<![\w.'-])[a-z][\w']*(?:\.[^\s(){}.;,@\"«»\[\]\\]+)+|(?<=[)}])(?:\.[^\s(){}.;,@\"«»\[\]\\]+)+"
-        return re.sub(path, lambda m: m[0] if m[0].split(".")[0] in roots else self.path(m), text)
+        return re.sub(path, self.path, text)
 
 
 ATOM = r"\((?:[^()]|\((?:[^()]|\((?:[^()]|\((?:[^()]|\([^()]*\))*\))*\))*\))*\)(?:\.[\w'-]+)*|[A-Za-z][\w']*(?:\.[\w'-]+)+|_"
@@ -135,7 +134,10 @@ def untested(text):
         if n and not re.search(r"(?m)^use .*\bno_says\b", text):
             text = re.sub(r"(?m)^(use \S+\.Tests\.)", r"use Rattle.laws.specs.Says.{no_says}\n\1", text, count=1)
     text = re.sub(r"\(not-(?:true|false) (?:%s) (%s)\)" % (ATOM, AFTER), r"\1", text)
-    return re.sub(r"(?<![\w.'-])not-(?:true|false) (?:%s) (%s)" % (ATOM, AFTER), r"\1", text)
+    text = re.sub(r"(?<![\w.'-])not-(?:true|false) (?:%s) (%s)" % (ATOM, AFTER), r"\1", text)
+    # And after the second test of an `&&` it says what the numbers are, and no longer what the test gives.
+    after = r"[A-Za-z][\w']*(?:\.[\w'-]+)*\.if-[\w'-]*-(?:eq|ne)[\w-]*\.(?:true|false)"
+    return re.sub(r"\(eqb-(?:true|false) (?:%s|\w+) (?:%s|\w+) (%s)\)" % (ATOM, ATOM, after), r"\1", text)
 
 
 def spec_named(text, name):
@@ -164,7 +166,8 @@ def retie(home, listed):
         # In a cycle of calls a file has the goals of each function, by a name of its own.
         use = r"(?m)^use \S+\.Lts-%s as (\S+)" % re.escape(m[3] or "-")
         aliases = re.findall(use, old)
-        text = spec_named(untested(Names(given).turn(old, aliases)), folder[-1])
+        text = goal_paths.turn(given, old, ["tie", *aliases], Names(given).by_name)
+        text = spec_named(untested(Names(given).turn(text, aliases)), folder[-1])
         if text != old:
             write(path, text)
 

@@ -1,6 +1,8 @@
 // Reads one whole number of a line: at most four digits, no leading zero, and a minus where one is allowed. And tells
 // what a byte after the equals sign is. An inner layer, a crate of its own for the check's time. Callers: `scan` and
 // `scan_list`.
+#![tactic(auto)]
+
 ghost use Rattle.std.specs.Prelude.{◌≡◌, ◌≤◌, length, drop};
 ghost use Rattle.scan_number.specs.Number.{class_of, number, more_digits, seen, within, signed_of, signed_number, whole_of, seen_whole, within_whole};
 ghost use Rattle.text.specs.Sizes.{four_digits};
@@ -9,7 +11,7 @@ ghost use Rattle.text.specs.Sizes.{four_digits};
 const THREE_DIGITS: u32 = 999;
 
 // What a byte after the equals sign is.
-#[derive(Drop)]
+#[derive(Clone, Copy)]
 pub enum Class {
     Minus,
     Digit(u8),
@@ -31,7 +33,7 @@ pub fn classify(b: u8) -> Class
 }
 
 // A number without a sign and the place after it, or no number.
-#[derive(Drop)]
+#[derive(Clone, Copy)]
 pub enum Number {
     Value(u32, usize),
     Malformed,
@@ -95,7 +97,7 @@ fn with_sign(negative: bool, n: u32) -> i32
 }
 
 // A whole number and the place after it, or none.
-#[derive(Drop)]
+#[derive(Clone, Copy)]
 pub enum Whole {
     Int(i32, usize),
     None,

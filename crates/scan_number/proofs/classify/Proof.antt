@@ -6,28 +6,28 @@ use Rattle.scan_number.specs.Bytes.{digit_class, low_class, high_class}
 use Rattle.scan_number.proofs.classify.Statement.{statement}
 use Rattle.scan_number.proofs.classify.Tie as tie
 
-returns : tie.Need-returns
+returns : tie.Need-returns-in-45
 unfolding class_of
-returns c = sym (ap class_of c.match.keys1)
+returns c = sym (ap class_of c.in-45.is)
 
-returns_2 : tie.Need-returns-2
+returns_2 : tie.Need-returns-in-44
 unfolding class_of
-returns_2 c = sym (ap class_of c.match.keys2)
+returns_2 c = sym (ap class_of c.in-44.is)
 
-returns_3 : tie.Need-returns-3
+returns_3 : tie.Need-returns-in-10
 unfolding class_of
-returns_3 c = sym (ap class_of c.match.keys3)
+returns_3 c = sym (ap class_of c.in-10.is)
 
-returns_4 : tie.Need-returns-4
-returns_4 c = sym (digit_class _ c.before.if1.false (omega arith))
+returns_4 : tie.Need-returns-in-48-to-57
+returns_4 c = sym (digit_class _ c.in-48-to-57.if-b-lt48-own.false (omega arith))
 
-returns_5 : tie.Need-returns-5
+returns_5 : tie.Need-returns-in_default
 returns_5 c =
-    let n = c.before.match.rest in
-    sym (low_class _ n.0.0.1 n.0.1 n.1 c.if1.true)
+    let n = c.in_default.in_default-own.rest in
+    sym (low_class _ c.in_default.in_default-own.rest.0.0.1 c.in_default.in_default-own.rest.0.1 c.in_default.in_default-own.rest.1 c.in_default.if-b-lt48-own.true)
 
-returns_6 : tie.Need-returns-6
-returns_6 c = sym (high_class _ c.if2.false)
+returns_6 : tie.Need-returns-in_default-2
+returns_6 c = sym (high_class _ c.in_default.if-b-lt58-own.false)
 
 pub classify_spec : {M : Type 1} → statement M
 classify_spec = tie.close (tie.spec returns returns_2 returns_3 returns_4 returns_5 returns_6)

@@ -13,80 +13,80 @@ use Rattle.scan_number.proofs.Digits.{digit_zero, digit_full, digit_more, digit_
 use Rattle.scan_number.proofs.more_digits.Statement.{statement}
 use Rattle.scan_number.proofs.more_digits.Tie as tie
 
-abbrev invariant_loop : tie.invariant_loop
+abbrev invariant_loop : tie.invariant-loop-i
 invariant_loop s at first v₀ i₀ v i =
     (i ≤ length s) × (v ≤ four_digits) × (more_digits v (drop i s) ≡ more_digits first (drop at s))
 
-abbrev decreases_loop : tie.decreases_loop
+abbrev decreases_loop : tie.decreases-loop-i
 decreases_loop s at first v₀ i₀ v i = length s - i
 
-loop_holds : tie.Need-loop-init invariant_loop decreases_loop
+loop_holds : tie.Need-loop-i-init invariant_loop decreases_loop
 loop_holds c = (omega arith, omega arith, refl)
 
-shared_slice_read_b : tie.Need-shared-slice-read-b invariant_loop decreases_loop
+shared_slice_read_b : tie.Need-bounds-s-i invariant_loop decreases_loop
 shared_slice_read_b c = omega arith
 
 classify_requires : tie.Need-classify-requires invariant_loop decreases_loop
 classify_requires c κs = tt
 
-enum_known_d : tie.Need-enum-known-d invariant_loop decreases_loop
-enum_known_d c = c.match.keys1
+enum_known_d : tie.Need-enum_known-d invariant_loop decreases_loop
+enum_known_d c = c.in-Digit.in-Digit-own.keys1
 
-returns : tie.Need-returns invariant_loop decreases_loop
+returns : tie.Need-returns-then-v-eq0 invariant_loop decreases_loop
 unfolding seen within
 returns c =
-    let d = c.before.before in
-    let k = d.before.before in
-    let l = k.before.before.before in
-    (sym (digit_zero _ _ k.before.before.loop-test.true _ _ _ k.classify.ensures d.d.given.1 c.if1.true) ∙ l.loop.invariant.2, tt)
+    let d = c in
+    let k = d in
+    let l = k in
+    (sym (digit_zero _ _ k.loop-i-test.true _ _ _ k.classify.ensures d.in-Digit.is c.if-v-eq0.true) ∙ l.loop-i.invariant.2, tt)
 
-returns_2 : tie.Need-returns-2 invariant_loop decreases_loop
+returns_2 : tie.Need-returns-then-v-gt-THREE_DIGITS invariant_loop decreases_loop
 unfolding seen within
 returns_2 c =
-    let d = c.before.before.before in
-    let k = d.before.before in
-    let l = k.before.before.before in
-    (sym (digit_full _ _ k.before.before.loop-test.true _ _ _ k.classify.ensures d.d.given.1 c.if2.true) ∙ l.loop.invariant.2, tt)
+    let d = c in
+    let k = d in
+    let l = k in
+    (sym (digit_full _ _ k.loop-i-test.true _ _ _ k.classify.ensures d.in-Digit.is c.if-v-gt-THREE_DIGITS.true) ∙ l.loop-i.invariant.2, tt)
 
-mul_v : tie.Need-overflow-mul-v invariant_loop decreases_loop
+mul_v : tie.Need-overflow_mul-v invariant_loop decreases_loop
 mul_v c = omega arith
 
-cast_v : tie.Need-overflow-cast-v invariant_loop decreases_loop
+cast_v : tie.Need-overflow_cast-v invariant_loop decreases_loop
 cast_v c =
-    let d = c.before.before.before in
-    omega (arith, byte_of _ (sym d.before.before.classify.ensures ∙ d.d.given.1))
+    let d = c in
+    omega (arith, byte_of _ (sym d.classify.ensures ∙ d.in-Digit.is))
 
-add_v : tie.Need-overflow-add-v invariant_loop decreases_loop
+add_v : tie.Need-overflow_add-v invariant_loop decreases_loop
 add_v c =
-    let d = c.before.before.before in
-    omega (arith, byte_of _ (sym d.before.before.classify.ensures ∙ d.d.given.1))
+    let d = c in
+    omega (arith, byte_of _ (sym d.classify.ensures ∙ d.in-Digit.is))
 
-returns_3 : tie.Need-returns-3 invariant_loop decreases_loop
+returns_3 : tie.Need-returns-in_default invariant_loop decreases_loop
 unfolding seen within
 returns_3 c =
-    let k = c.before in
-    let l = k.before.before.before in
-    (sym (digit_stop _ _ k.before.before.loop-test.true _ _ k.classify.ensures c.match.keys2) ∙ l.loop.invariant.2, omega arith)
+    let k = c in
+    let l = k in
+    (sym (digit_stop _ _ k.loop-i-test.true _ _ k.classify.ensures c.in_default.in_default-own.keys2) ∙ l.loop-i.invariant.2, omega arith)
 
-add_i : tie.Need-overflow-add-i invariant_loop decreases_loop
+add_i : tie.Need-overflow_add-i invariant_loop decreases_loop
 add_i c = omega arith
 
-loop_less : tie.Need-loop-smaller invariant_loop decreases_loop
+loop_less : tie.Need-loop-i-smaller invariant_loop decreases_loop
 loop_less c = omega arith
 
-loop_again : tie.Need-loop-preserved invariant_loop decreases_loop
+loop_again : tie.Need-loop-i-preserved invariant_loop decreases_loop
 loop_again c =
-    let d = c.before.before.before in
-    let k = d.before.before in
-    let l = k.before.before.before in (
+    let d = c in
+    let k = d in
+    let l = k in (
       omega arith,
-      omega (arith, byte_of _ (sym k.classify.ensures ∙ d.d.given.1)),
-      sym (digit_more _ _ k.before.before.loop-test.true _ _ _ k.classify.ensures d.d.given.1 c.before.if1.false c.if2.false) ∙ l.loop.invariant.2,
+      omega (arith, byte_of _ (sym k.classify.ensures ∙ d.in-Digit.is)),
+      sym (digit_more _ _ k.loop-i-test.true _ _ _ k.classify.ensures d.in-Digit.is c.if-v-eq0.false c.if-v-gt-THREE_DIGITS.false) ∙ l.loop-i.invariant.2,
     )
 
-returns_4 : tie.Need-returns-4 invariant_loop decreases_loop
+returns_4 : tie.Need-returns invariant_loop decreases_loop
 unfolding seen within
-returns_4 c = (sym (digit_end _ _ _ c.loop-test.false) ∙ c.before.loop.invariant.2, omega arith)
+returns_4 c = (sym (digit_end _ _ _ c.loop-i-test.false) ∙ c.loop-i.invariant.2, omega arith)
 
 pub more_digits_spec : {M : Type 1} → statement M
 more_digits_spec =

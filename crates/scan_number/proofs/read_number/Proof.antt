@@ -10,42 +10,42 @@ use Rattle.scan_number.proofs.Digits.{none_here, number_digit, number_other}
 use Rattle.scan_number.proofs.read_number.Statement.{statement}
 use Rattle.scan_number.proofs.read_number.Tie as tie
 
-returns : tie.Need-returns
+returns : tie.Need-returns-then-s-at
 unfolding seen within
-returns c = (sym (none_here _ _ c.if1.true), tt)
+returns c = (sym (none_here _ _ c.if-s-at.true), tt)
 
-shared_slice_read_b : tie.Need-shared-slice-read-b
+shared_slice_read_b : tie.Need-bounds-s-at
 shared_slice_read_b c = search rules
 
 classify_requires : tie.Need-classify-requires
 classify_requires c κs = search rules
 
-enum_known_d : tie.Need-enum-known-d
+enum_known_d : tie.Need-enum_known-d
 enum_known_d c = search rules
 
-add_more_digits : tie.Need-overflow-add-more-digits
+add_more_digits : tie.Need-overflow_add-at
 add_more_digits c = search rules
 
-cast_more_digits : tie.Need-overflow-cast-more-digits
+cast_more_digits : tie.Need-overflow_cast-d
 cast_more_digits c = search rules
 
-more_digits_requires : tie.Need-more-digits-requires
+more_digits_requires : tie.Need-more_digits-requires
 more_digits_requires c κs =
-    let k = c.before.before.before in
-    let b = byte_of _ (sym k.classify.ensures ∙ c.before.d.given.1) in
+    let k = c in
+    let b = byte_of _ (sym k.classify.ensures ∙ c.in-Digit.is) in
     omega arith
 
-returns_2 : tie.Need-returns-2
+returns_2 : tie.Need-returns-in-Digit
 returns_2 c =
-    let d = c.before.before in
-    let k = d.before.before in
-    (c.more-digits.ensures.0 ∙ sym (number_digit _ _ k.before.before.if1.false _ k.classify.ensures _ d.d.given.1), c.more-digits.ensures.1)
+    let d = c in
+    let k = d in
+    (c.more_digits.ensures.0 ∙ sym (number_digit _ _ k.if-s-at.false _ k.classify.ensures _ d.in-Digit.is), c.more_digits.ensures.1)
 
-returns_3 : tie.Need-returns-3
+returns_3 : tie.Need-returns-in_default
 unfolding seen within
 returns_3 c =
-    let k = c.before in
-    (sym (number_other _ _ k.before.before.if1.false _ k.classify.ensures c.match.keys2), tt)
+    let k = c in
+    (sym (number_other _ _ k.if-s-at.false _ k.classify.ensures c.in_default.in_default-own.keys2), tt)
 
 pub read_number_spec : {M : Type 1} → statement M
 read_number_spec =

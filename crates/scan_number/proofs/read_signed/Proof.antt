@@ -13,46 +13,46 @@ use borrow.Author.Rules.{rules}
 use Rattle.scan_number.proofs.read_signed.Statement.{statement}
 use Rattle.scan_number.proofs.read_signed.Tie as tie
 
-read_number_requires : tie.Need-read-number-requires
+read_number_requires : tie.Need-read_number-requires
 read_number_requires c κs = search rules
 
-enum_known_n : tie.Need-enum-known-n
+enum_known_n : tie.Need-enum_known-n
 enum_known_n c = search rules
 
-returns : tie.Need-returns
+returns : tie.Need-returns-then-n-eq0
 unfolding seen_whole within_whole
 returns c =
-    let g = c.before.before.before in
-    let r = g.before.before in
-    (sym (signed_zero _ _ _ (seen_value _ r.read_number.ensures.0 g.n.given.1) _ c.before.if1.true (eqb-true _ 0 c.if2.true)), tt)
+    let g = c in
+    let r = g in
+    (sym (signed_zero _ _ _ (seen_value _ r.read_number.ensures.0 g.in-Value.is) _ c.if-negative.true (eqb-true _ 0 c.if-n-eq0.true)), tt)
 
-with_sign_requires : tie.Need-with-sign-requires
+with_sign_requires : tie.Need-with_sign-requires
 with_sign_requires c κs =
-    let g = c.before.before in
-    let r = g.before.before in
-    (within_value _ r.read_number.ensures.1 g.n.given.1).1
+    let g = c in
+    let r = g in
+    (within_value _ r.read_number.ensures.1 g.in-Value.is).1
 
-enum_told : tie.Need-enum-told
+enum_told : tie.Need-enum_told-1
 enum_told c = search rules
 
-returns_2 : tie.Need-returns-2
+returns_2 : tie.Need-returns-else-negative
 unfolding seen_whole within_whole
 returns_2 c =
-    let g = c.before.before.before in
-    let r = g.before.before in
-    let a = r.before.before.args in
-    let w = within_value _ r.read_number.ensures.1 g.n.given.1 in
-    let z = to_z-of_z {w = w32} {z = c.with-sign.result} (record { sfits = c.with-sign.type-inv }) in
-    let e = z ∙ c.with-sign.ensures in (
-      rw e (sym (signed_got (drop a.at a.s.now) _ _ (seen_value _ r.read_number.ensures.0 g.n.given.1) a.negative (⊎_elim (λ w. inr (eqb-false _ 0 w.1.left)) (λ w. inl w.left) c.before.if1.branch))),
-      (w.0, rw (e, mag_signed a.negative g.n.given.0.0) w.1),
+    let g = c in
+    let r = g in
+    let a = r.args in
+    let w = within_value _ r.read_number.ensures.1 g.in-Value.is in
+    let z = to_z-of_z {w = w32} {z = c.with_sign.result} (record { sfits = c.with_sign.type_inv }) in
+    let e = z ∙ c.with_sign.ensures in (
+      rw e (sym (signed_got (drop a.at a.s.now) _ _ (seen_value _ r.read_number.ensures.0 g.in-Value.is) a.negative (⊎_elim (λ w. inr (eqb-false _ 0 w.1.left)) (λ w. inl w.left) c.else-negative.branch-raw))),
+      (w.0, rw (e, mag_signed a.negative g.in-Value.n) w.1),
     )
 
-returns_3 : tie.Need-returns-3
+returns_3 : tie.Need-returns-in-Malformed
 unfolding seen_whole within_whole
 returns_3 c =
-    let r = c.before.before in
-    (sym (signed_none _ _ (seen_malformed _ r.read_number.ensures.0 c.enum_told.given.1)), tt)
+    let r = c in
+    (sym (signed_none _ _ (seen_malformed _ r.read_number.ensures.0 c.in-Malformed.is)), tt)
 
 pub read_signed_spec : {M : Type 1} → statement M
 read_signed_spec =
