@@ -1,6 +1,6 @@
 -- That a plan's cluster, moved to one place, is a plan of the task that has forgotten all else: all its starts are
 -- moved by one number, so differences stay, and so does which of them hold a slot in common. Assumes nothing.
-use Rattle.std.specs.Prelude.{◌≡◌, refl, Bool, true, false, cond, List, ℕ, ◌+◌, ◌-◌, ◌*◌, ◌≤◌, ◌<◌, ℤ, pos, ◌+ℤ◌, ◌≤ℤ◌, eqb}
+use Rattle.std.specs.Prelude.{◌≡◌, refl, Bool, true, false, cond, List, ℕ, ◌+◌, ◌-◌, ◌*◌, ◌<◌, ℤ, pos, ◌+ℤ◌, ◌≤ℤ◌, eqb}
 use Rattle.std.proofs.Common.{sym, ap, subst, ◌∙◌, ⊎_elim, arith, eqb-true}
 use Rattle.sizes.specs.Sizes.{most_operations, most_types, most_starts}
 use Rattle.laws.specs.Entry.{vec, at}

@@ -1,6 +1,6 @@
 -- That a plan is one of the task at a coarser interval. At m, which divides the interval, an operation's new instance
 -- tells its instance at the interval and in which of the interval's parts of m slots it starts. Assumes nothing.
-use Rattle.std.specs.Prelude.{◌≡◌, refl, ◌⊎◌, List, ℕ, ◌+◌, ◌*◌, ◌/◌, ◌%◌, ◌≤◌, ◌<◌}
+use Rattle.std.specs.Prelude.{◌≡◌, refl, List, ℕ, ◌+◌, ◌*◌, ◌/◌, ◌%◌, ◌≤◌, ◌<◌}
 use Rattle.std.proofs.Math.Path.{sym, ap}
 use Rattle.std.proofs.Common.{subst, ◌∙◌, ⊎_elim, arith, mod-lt, mod-eq_of_lt, div-add-mod', div-lt_iff_lt-mul, one-mul}
 use Rattle.std.proofs.Math.Nat.{mod-mod_of_dvd, dvd_of_mod-eq-zero, add-mul-div_right, div-eq_of_lt, mul-le-mul_right, add-mul}

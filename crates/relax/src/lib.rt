@@ -3,6 +3,8 @@
 // An inner layer, a crate of its own for the check's time: `coarse` asks for a task whose numbers are within its arrays
 // (`TaskOk`), and for an interval that divides the task's.
 // Caller: `search`, with the task of schedule::plan_at, when it has not answered after some steps.
+#![tactic(auto)]
+
 ghost use Rattle.std.specs.Prelude.{◌≡◌, ◌%◌, ◌≤◌, ◌<◌};
 ghost use Rattle.sizes.specs.Sizes.{most_operations, most_intervals};
 ghost use Rattle.task.specs.Plan.{TaskOk};
