@@ -173,6 +173,7 @@ fn room_kept(p: Task, starts: [usize; MOST_OPERATIONS]) -> bool
 
 // Whether the starts have instances in a type, if it is limited. Where it stays busy for one slot, there is one for each
 // as no stretch has too many.
+#[tactic(auto, using(crate::specs::PlanLaws::one_seated))]
 fn type_seated(p: Task, starts: [usize; MOST_OPERATIONS], kind: usize) -> bool
     requires { TaskOk p × Roomy p (vec starts) × (kind < most_types) }
     ensures { Says (TypeSeated p kind (vec starts)) result }
