@@ -54,14 +54,17 @@ class Paths:
                     return place
         return None
 
+    def partial(self, at):
+        """Whether a later place takes more of the same arm; then this one is a step of its own."""
+        arm = self.arm[at]
+        return any(self.prev[it] == at and self.arm[it] and self.arm[it][0] == arm[0] for it in self.prev)
+
     def arm_over(self, goal, place):
         """The arm's record, as seen from the goal, that holds the step of `place`."""
         for at in self.up(goal):
             arm = self.arm.get(at)
-            if arm and place in list(self.up(at))[:arm[1]]:
-                # Where a later place takes more of the same arm, this one has a name of its own.
-                partial = any(self.prev[it] == at and self.arm[it] and self.arm[it][0] == arm[0] for it in self.prev)
-                return [self.new[at][:1].lower() + self.new[at][1:], *arm[1:]] if partial else arm
+            if arm and place in list(self.up(at))[:arm[1]] and not self.partial(at):
+                return arm
         return None
 
     def from_step(self, goal, place, rest):
@@ -78,6 +81,8 @@ class Paths:
             if best is None:
                 return None
             return [arm[0], best[0]] + rest[len(best[1]):]
+        if self.arm[place] and self.step[place][0] == "match":
+            return [self.new[place][:1].lower() + self.new[place][1:]] + rest
         return [self.step[place][1]] + rest
 
     def read(self, at, parts):

@@ -30,7 +30,7 @@ classify_requires : tie.Need-classify-requires invariant_loop decreases_loop
 classify_requires c κs = tt
 
 enum_known_d : tie.Need-enum_known-d invariant_loop decreases_loop
-enum_known_d c = c.in-Digit.in-Digit-own.keys1
+enum_known_d c = c.in-Digit-1.keys1
 
 returns : tie.Need-returns-then-v-eq0 invariant_loop decreases_loop
 unfolding seen within

@@ -5,7 +5,6 @@ use mathlib.Core.Path.{sym, ◌∙◌}
 use mathlib.Core.Logic.{⊎_elim, inl, inr}
 use lib.ListN.{drop}
 use mir.Facts.{to_z-of_z}
-use borrow.Author.Tests.{eqb-true, eqb-false}
 use Rattle.scan_number.proofs.Digits.{seen_value, seen_malformed, within_value}
 use Rattle.scan_number.specs.Number.{seen_whole, within_whole}
 use Rattle.scan_number.proofs.Signs.{signed_got, signed_zero, signed_none, mag_signed}
@@ -24,7 +23,7 @@ unfolding seen_whole within_whole
 returns c =
     let g = c in
     let r = g in
-    (sym (signed_zero _ _ _ (seen_value _ r.read_number.ensures.0 g.in-Value.is) _ c.if-negative.true (eqb-true _ 0 c.if-n-eq0.true)), tt)
+    (sym (signed_zero _ _ _ (seen_value _ r.read_number.ensures.0 g.in-Value.is) _ c.if-negative.true c.if-n-eq0.true), tt)
 
 with_sign_requires : tie.Need-with_sign-requires
 with_sign_requires c κs =
@@ -44,7 +43,7 @@ returns_2 c =
     let w = within_value _ r.read_number.ensures.1 g.in-Value.is in
     let z = to_z-of_z {w = w32} {z = c.with_sign.result} (record { sfits = c.with_sign.type_inv }) in
     let e = z ∙ c.with_sign.ensures in (
-      rw e (sym (signed_got (drop a.at a.s.now) _ _ (seen_value _ r.read_number.ensures.0 g.in-Value.is) a.negative (⊎_elim (λ w. inr (eqb-false _ 0 w.1.left)) (λ w. inl w.left) c.else-negative.branch-raw))),
+      rw e (sym (signed_got (drop a.at a.s.now) _ _ (seen_value _ r.read_number.ensures.0 g.in-Value.is) a.negative (⊎_elim (λ w. inr w.if-n-eq0.false) (λ w. inl w.if-negative.false) c.else-negative.branch-raw))),
       (w.0, rw (e, mag_signed a.negative g.in-Value.n) w.1),
     )
 

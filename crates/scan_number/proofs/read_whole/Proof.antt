@@ -6,7 +6,6 @@ use Rattle.scan_number.specs.Number.{seen_whole, within_whole}
 use Rattle.scan_number.specs.Bytes.{byte_of}
 use Rattle.scan_number.proofs.Signs.{whole_minus, whole_off, whole_end, whole_plain}
 use borrow.Author.Rules.{rules}
-use borrow.Author.Tests.{not-true, not-false}
 use Rattle.scan_number.proofs.read_whole.Statement.{statement}
 use Rattle.scan_number.proofs.read_whole.Tie as tie
 
@@ -14,7 +13,7 @@ read_signed_requires : tie.Need-read_signed-requires
 read_signed_requires c κs = search rules
 
 returns : tie.Need-returns-then-not-minus
-returns c = (c.read_signed.ensures.0 ∙ sym (whole_off _ _ (not-true _ c.if-not-minus.true)), c.read_signed.ensures.1)
+returns c = (c.read_signed.ensures.0 ∙ sym (whole_off _ _ c.if-not-minus.true), c.read_signed.ensures.1)
 
 returns_2 : tie.Need-returns-then-s-at
 unfolding seen_whole within_whole
@@ -43,7 +42,7 @@ returns_3 c =
     let k = c in
     let l = k in
     let b = byte_of _ (sym k.classify.ensures ∙ c.in-Minus.is) in
-    (c.read_signed-in-Minus.ensures.0 ∙ sym (whole_minus _ _ _ (not-false _ l.if-not-minus.false) l.if-s-at.false b), c.read_signed-in-Minus.ensures.1)
+    (c.read_signed-in-Minus.ensures.0 ∙ sym (whole_minus _ _ _ l.if-not-minus.false l.if-s-at.false b), c.read_signed-in-Minus.ensures.1)
 
 returns_4 : tie.Need-returns-in_default
 returns_4 c =
