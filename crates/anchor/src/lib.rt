@@ -2,6 +2,8 @@
 // is put at the start ANCHOR. It forgets where a plan stands, so that one question answers for every place.
 // An inner layer, a crate of its own for the check's time: `cluster` and `anchored` ask for a task whose numbers are
 // within its arrays (`TaskOk`), and for an operation of it. Caller: `search`, with the task of schedule::plan_at.
+#![tactic(auto)]
+
 ghost use Rattle.std.specs.Prelude.{◌≤◌, ◌<◌};
 ghost use Rattle.sizes.specs.Sizes.{most_operations};
 ghost use Rattle.task.specs.Plan.{TaskOk};

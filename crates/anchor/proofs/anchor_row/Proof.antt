@@ -12,17 +12,17 @@ use Rattle.anchor.proofs.anchor_row.Tie as tie
 only_requires : tie.Need-only-requires
 only_requires c κs = search rules
 
-returns : tie.Need-returns
-returns c = record { here = λ _ _. c.only.ensures.here; any = λ _ e. true_false (sym c.before.if2.true ∙ e); outside = λ e. true_false (sym c.before.before.if1.true ∙ e) }
+returns : tie.Need-returns-then-anchor
+returns c = record { here = λ _ _. c.only.ensures.here; any = λ _ e. true_false (sym c.if-anchor.true ∙ e); outside = λ e. true_false (sym c.if-inside.true ∙ e) }
 
-returns_2 : tie.Need-returns-2
-returns_2 c = record { here = λ _ e. true_false (sym e ∙ c.if2.false); any = λ _ _ t l. get_or-replicate most_starts t true false l; outside = λ e. true_false (sym c.before.if1.true ∙ e) }
+returns_2 : tie.Need-returns-then-inside
+returns_2 c = record { here = λ _ e. true_false (sym e ∙ c.if-anchor.false); any = λ _ _ t l. get_or-replicate most_starts t true false l; outside = λ e. true_false (sym c.if-inside.true ∙ e) }
 
 only_requires_2 : tie.Need-only-requires-2
 only_requires_2 c κs = search rules
 
-returns_3 : tie.Need-returns-3
-returns_3 c = record { here = λ e. true_false (sym e ∙ c.before.if1.false); any = λ e. true_false (sym e ∙ c.before.if1.false); outside = λ _. c.only2.ensures.here }
+returns_3 : tie.Need-returns
+returns_3 c = record { here = λ e. true_false (sym e ∙ c.if-inside.false); any = λ e. true_false (sym e ∙ c.if-inside.false); outside = λ _. c.only-2.ensures.here }
 
 pub anchor_row_spec : {M : Type 1} → statement M
 anchor_row_spec = tie.close (tie.spec only_requires returns returns_2 only_requires_2 returns_3)

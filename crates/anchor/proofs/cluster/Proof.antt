@@ -16,61 +16,61 @@ use Rattle.relax.specs.Anchor.{close_near}
 use Rattle.anchor.proofs.cluster.Statement.{statement}
 use Rattle.anchor.proofs.cluster.Tie as tie
 
-abbrev invariant_loop : tie.invariant_loop
+abbrev invariant_loop : tie.invariant-loop-j
 invariant_loop i p n c₀ j₀ c j = (j ≤ n) × (length c ≡ most_operations) × ((k : ℕ) → k < j → has c k ≡ true → (t : ℕ → ℕ) → PlanOf p t → Within i k t)
 
-abbrev decreases_loop : tie.decreases_loop
+abbrev decreases_loop : tie.decreases-loop-j
 decreases_loop i p n c₀ j₀ c j = n - j
 
-loop_holds : tie.Need-loop-init invariant_loop decreases_loop
+loop_holds : tie.Need-loop-j-init invariant_loop decreases_loop
 loop_holds c = (omega arith, search rules, λ k l. absurd (omega arith))
 
-mul_there : tie.Need-overflow-mul-there invariant_loop decreases_loop
+mul_there : tie.Need-overflow_mul-there invariant_loop decreases_loop
 mul_there c = search rules
 
-add_there : tie.Need-overflow-add-there invariant_loop decreases_loop
+add_there : tie.Need-overflow_add-there invariant_loop decreases_loop
 add_there c = search rules
 
-mul_back : tie.Need-overflow-mul-back invariant_loop decreases_loop
+mul_back : tie.Need-overflow_mul-back invariant_loop decreases_loop
 mul_back c = search rules
 
-add_back : tie.Need-overflow-add-back invariant_loop decreases_loop
+add_back : tie.Need-overflow_add-back invariant_loop decreases_loop
 add_back c = search rules
 
-mul_close : tie.Need-overflow-mul-close invariant_loop decreases_loop
+mul_close : tie.Need-offset_bounds-p-there invariant_loop decreases_loop
 mul_close c = search rules
 
-element_copy_out_close : tie.Need-element-copy-out-close invariant_loop decreases_loop
+element_copy_out_close : tie.Need-bounds-p-there invariant_loop decreases_loop
 element_copy_out_close c = search rules
 
-mul_close_2 : tie.Need-overflow-mul-close-2 invariant_loop decreases_loop
+mul_close_2 : tie.Need-offset_bounds-p-back invariant_loop decreases_loop
 mul_close_2 c = search rules
 
-element_copy_out_close_2 : tie.Need-element-copy-out-close-2 invariant_loop decreases_loop
+element_copy_out_close_2 : tie.Need-bounds-p-back invariant_loop decreases_loop
 element_copy_out_close_2 c = search rules
 
 close_requires : tie.Need-close-requires invariant_loop decreases_loop
 close_requires c κs = search rules
 
-array_write_c : tie.Need-array-write-c invariant_loop decreases_loop
+array_write_c : tie.Need-bounds-c-j invariant_loop decreases_loop
 array_write_c c = search rules
 
-add_j : tie.Need-overflow-add-j invariant_loop decreases_loop
+add_j : tie.Need-overflow_add-j invariant_loop decreases_loop
 add_j c = search rules
 
-loop_less : tie.Need-loop-smaller invariant_loop decreases_loop
+loop_less : tie.Need-loop-j-smaller invariant_loop decreases_loop
 loop_less c = search rules
 
-loop_again : tie.Need-loop-preserved invariant_loop decreases_loop
-loop_again c = let l = c.before.before.before.before.loop in let s = c.before.before.before.before.before in let h = c.before.before.before.loop-test.true in (
+loop_again : tie.Need-loop-j-preserved invariant_loop decreases_loop
+loop_again c = let l = c.loop-j in let s = c in let h = c.loop-j-test.true in (
   omega (arith, h),
   simp length-set l.invariant.1,
-  store_more (λ k z. z ≡ true → (t : ℕ → ℕ) → PlanOf s.args.t1 t → Within s.args.i k t) l.c l.j _ false (omega (arith, l.invariant.1, h, s.requires.0.ops_ok))
-      (close_near s.args.t1 s.args.i l.j s.requires.1 h (rw (kept {z = lag_of s.args.t1 s.args.i l.j} (fits32 c.before.before.close-arg.given), kept {z = lag_of s.args.t1 l.j s.args.i} (fits32 c.before.close-arg2.given)) at c.close.ensures)) l.invariant.2,
+  store_more (λ k z. z ≡ true → (t : ℕ → ℕ) → PlanOf s.args.p t → Within s.args.i k t) l.c l.j _ false (omega (arith, l.invariant.1, h, s.requires.0.ops_ok))
+      (close_near s.args.p s.args.i l.j s.requires.1 h (rw (kept {z = lag_of s.args.p s.args.i l.j} (fits32 c.close-arg-1.given), kept {z = lag_of s.args.p l.j s.args.i} (fits32 c.close-arg-in-loop-j-1.given)) at c.close.ensures)) l.invariant.2,
 )
 
 returns : tie.Need-returns invariant_loop decreases_loop
-returns c = record { near = λ k l. c.before.loop.invariant.2 k (omega (arith, c.loop-test.false)) }
+returns c = record { near = λ k l. c.loop-j.invariant.2 k (omega (arith, c.loop-j-test.false)) }
 
 pub cluster_spec : {M : Type 1} → statement M
 cluster_spec =

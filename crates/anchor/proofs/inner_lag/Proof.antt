@@ -6,13 +6,13 @@ use Rattle.laws.specs.Z.{kept}
 use Rattle.anchor.proofs.inner_lag.Statement.{statement}
 use Rattle.anchor.proofs.inner_lag.Tie as tie
 
-returns : tie.Need-returns
-returns c = record { case = inr (c.before.if1.true, c.if2.true, kept c.before.before.ranges.lag) }
+returns : tie.Need-returns-then-to
+returns c = record { case = inr (c.if-from.true, c.if-to.true, kept c.ranges.lag) }
 
-returns_2 : tie.Need-returns-2
+returns_2 : tie.Need-returns-else-to
 returns_2 c = record { case = inl refl }
 
-returns_3 : tie.Need-returns-3
+returns_3 : tie.Need-returns-else-from
 returns_3 c = record { case = inl refl }
 
 pub inner_lag_spec : {M : Type 1} → statement M

@@ -6,10 +6,10 @@ use native.Mathlib.Omega.{arith}
 use Rattle.anchor.proofs.inner_type.Statement.{statement}
 use Rattle.anchor.proofs.inner_type.Tie as tie
 
-returns : tie.Need-returns
-returns c = record { case = inr (c.if1.true, refl) }
+returns : tie.Need-returns-then-inside
+returns c = record { case = inr (c.if-inside.true, refl) }
 
-returns_2 : tie.Need-returns-2
+returns_2 : tie.Need-returns
 returns_2 c = record { case = inl (omega arith) }
 
 pub inner_type_spec : {M : Type 1} → statement M
