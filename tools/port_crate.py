@@ -59,7 +59,10 @@ class Names:
     def __init__(self, given):
         self.needs = {plain(old): new for old, new in given["needs"]}
         self.places = {plain(it[0]): new for it, new in zip(given["places"], given["places_by_name"])}
-        self.steps = {plain(it[2][0]): it[2][1] for it in given["places"] if it[2][0]}
+        steps = [(it[0].startswith("Joined"), plain(it[2][0]), it[2][1]) for it in given["places"] if it[2][0]]
+        self.steps = {old: new for joined, old, new in steps if not joined}
+        # Where several tests join, the join has a name of its own.
+        self.joins = {old: new for joined, old, new in steps if joined}
         self.loops = {plain(it[0][0]): it[0][1] for it in given["loops"]}
         self.args = sorted(((a.replace(" ", ""), b.replace(" ", "")) for a, b in given["args"]), key=lambda it: -len(it[0]))
 
@@ -82,12 +85,13 @@ class Names:
         """A path from a place: up by `before`, then a step or `args`, then fields, which keep their names."""
         root, *parts = m[0].split(".")
         turned, open_ = [root], True
-        for it in parts:
+        for it, after in zip(parts, [*parts[1:], ""]):
             it = OWN.get(it, it)
             if open_ and it not in ("before", "end"):
                 # respell.py also gave a step the name of a lemma, as `in_class_lem` for the call of `in_class`.
                 lemma = it[:-4] if it.endswith("_lem") else it
-                new = self.steps.get(plain(it), self.steps.get(plain(lemma), it))
+                steps = {**self.joins, **self.steps} if after in ("true", "false") else {**self.steps, **self.joins}
+                new = steps.get(plain(it), steps.get(plain(lemma), it))
                 open_ = False
                 it = new
             turned.append(it)
@@ -202,6 +206,35 @@ def mend_fields(home, said):
     return changed
 
 
+WAYS = re.compile(r"(?m)^\.?/?(\S+\.antt):(\d+):(\d+): error: .*\.By-[^`]+`\s+has no field `(\w+)`.*?(?:here are|nearest:?) ([^\n]*)$")
+TOLD = {"taken": "true", "left": "false"}
+
+
+def mend_ways(home, said):
+    """What is known on one way to a join goes by the steps' names, not by their number."""
+    changed = False
+    said = re.sub(r"\n  (has no field|the fields that)", r" \1", said)
+    for m in WAYS.finditer(said):
+        fields = re.findall(r"[`.]([\w+-]+)", m[5])
+        path = os.path.join(home, m[1])
+        lines = read(path).split("\n")
+        row, at = int(m[2]) - 1, int(m[3]) - 1
+        line = lines[row]
+        found = re.compile(r"\.%s(?![\w-])(\.taken|\.left)?" % m[4]).search(line, at)
+        if not found or not fields:
+            continue
+        if m[4].isdigit():
+            new = "." + fields[min(int(m[4]), len(fields) - 1)] + ("." + TOLD[found[1][1:]] if found[1] else "")
+        elif m[4] in TOLD:
+            new = "." + fields[0] + "." + TOLD[m[4]]
+        else:
+            continue
+        lines[row] = line[:found.start()] + new + line[found.end():]
+        write(path, "\n".join(lines))
+        changed = True
+    return changed
+
+
 def port(name):
     home = os.path.join(ROOT, "crates", name)
     kept = os.path.join(NAMES, name)
@@ -217,7 +250,7 @@ def port(name):
     rt(home, "check")  # the first check after a listing may still read the old names
     said = rt(home, "check")
     for _ in range(8):
-        if not mend_fields(home, said):
+        if not (mend_fields(home, said) | mend_ways(home, said)):
             break
         said = rt(home, "check")
     return said

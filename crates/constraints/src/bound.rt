@@ -6,7 +6,7 @@ use net::settle;
 use sizes::MOST_OPERATIONS;
 
 #[repr(C)]
-#[derive(Drop)]
+#[derive(Clone, Copy)]
 pub struct Bound {
     pub answer: usize,
     pub value: usize,

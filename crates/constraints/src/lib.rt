@@ -1,6 +1,8 @@
 // Difference constraints answered: at an interval the earliest starts, bad closed walks and separations of a dependence
 // graph, and its recurrence bound. No public function has a `requires`: numbers out of their range get the answer of
 // document 01. The answers are in dependence/specs/Answer.antt.
+#![tactic(auto)]
+
 mod bound;
 mod loops;
 mod separation;

@@ -9,7 +9,7 @@ use net::settle;
 use sizes::MOST_OPERATIONS;
 
 #[repr(C)]
-#[derive(Drop)]
+#[derive(Clone, Copy)]
 pub struct BadWalk {
     pub answer: usize,
     pub loop_length: usize,

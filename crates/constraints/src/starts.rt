@@ -10,7 +10,7 @@ use net::settle;
 use sizes::MOST_OPERATIONS;
 
 #[repr(C)]
-#[derive(Drop)]
+#[derive(Clone, Copy)]
 pub struct Starts {
     pub answer: usize,
     pub starts: [usize; MOST_OPERATIONS],

@@ -1,5 +1,7 @@
 // Lags: how much later, at least, each operation starts than each other, in any starts that meet every dependence. The
 // plan search uses them. A crate of its own for the check's time.
+#![tactic(auto)]
+
 ghost use Rattle.std.specs.Prelude.{◌≡◌, ◌≤◌, ◌<◌, pos, ◌-ℤ◌};
 ghost use Rattle.sizes.specs.Sizes.{most_operations};
 ghost use Rattle.net.specs.Net.{Below, highest_floor, highest_start};

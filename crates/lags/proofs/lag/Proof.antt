@@ -8,13 +8,13 @@ use Rattle.laws.specs.Z.{kept, cast_kept, fits_show, minus, zed}
 use Rattle.lags.proofs.lag.Statement.{statement}
 use Rattle.lags.proofs.lag.Tie as tie
 
-cast_result : tie.Need-overflow-cast-result
+cast_result : tie.Need-overflow_cast-result
 cast_result c = search rules
 
-cast_result_2 : tie.Need-overflow-cast-result-2
+cast_result_2 : tie.Need-overflow_cast-result-2
 cast_result_2 c = search rules
 
-sub_result : tie.Need-overflow-sub-result
+sub_result : tie.Need-overflow_sub-result
 sub_result c = let a = c.args in
     rw (cast_kept a.at (omega arith)) (fits_show (omega (arith, zed, minus (pos a.at) (pos highest_floor))) (omega (arith, zed, minus (pos a.at) (pos highest_floor))))
 

@@ -5,10 +5,10 @@ use Rattle.lags.specs.Lag.{peak_law}
 use Rattle.lags.proofs.peak.Statement.{statement}
 use Rattle.lags.proofs.peak.Tie as tie
 
-mul_f : tie.Need-overflow-mul-f
+mul_f : tie.Need-offset_bounds-f-i
 mul_f c = search rules
 
-array_write_f : tie.Need-array-write-f
+array_write_f : tie.Need-bounds-f-i
 array_write_f c = search rules
 
 returns : tie.Need-returns
