@@ -2,19 +2,18 @@
 -- Assumes nothing.
 use mathlib.Core.Path.{sym}
 use borrow.Author.Rules.{rules}
-use Rattle.laws.specs.Tests.{denied, passed}
 use Rattle.sheet.specs.AnswerLaws.{number_judged, number_out}
 use Rattle.sheet.proofs.number_answer.Statement.{statement}
 use Rattle.sheet.proofs.number_answer.Tie as tie
 
-inside_unsigned_requires : tie.Need-inside-unsigned-requires
+inside_unsigned_requires : tie.Need-inside_unsigned-requires
 inside_unsigned_requires c κs = search rules
 
-returns : tie.Need-returns
-returns c = sym (number_out _ _ (denied c.before.inside-unsigned.ensures c.if1.true))
+returns : tie.Need-returns-then-not-inside_unsigned
+returns c = sym (number_out _ _ (c.inside_unsigned.ensures.no c.if-not-inside_unsigned.true))
 
-returns_2 : tie.Need-returns-2
-returns_2 c = sym ((number_judged _ _).accepts (passed c.before.inside-unsigned.ensures c.if1.false))
+returns_2 : tie.Need-returns
+returns_2 c = sym ((number_judged _ _).accepts (c.inside_unsigned.ensures.yes c.if-not-inside_unsigned.false))
 
 pub number_answer_spec : {M : Type 1} → statement M
 number_answer_spec = tie.close (tie.spec inside_unsigned_requires returns returns_2)
