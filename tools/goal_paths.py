@@ -126,8 +126,8 @@ def turned_body(paths, text, roots):
         if root in roots:
             place, goal, name = roots[root]
             kind = paths.read(place, parts)
-            if kind[0] == "place":
-                return name
+            if kind[0] == "place":  # handed on as it stands, to a lemma of the file
+                return ".".join([name] + ["before"] * list(paths.up(goal)).index(kind[1]))
             if kind[0] == "step":
                 got = paths.from_step(goal, kind[1], kind[2])
                 return None if got is None else ".".join([name] + got)
