@@ -1,6 +1,8 @@
 // The questions that every service puts to a sheet first: those of its lines in their order (3 and 16), then 4 for an
 // interval. What they ask is in sheet/specs/Answer.antt and sheet/specs/Questions.antt. A crate of its own for the
 // check's time.
+#![tactic(auto)]
+
 ghost use Rattle.std.specs.Prelude.{◌≡◌, ◌≤◌, get_or};
 ghost use Rattle.sizes.specs.Sizes.{most_operations, most_types, most_edges};
 ghost use Rattle.laws.specs.Says.{Says};

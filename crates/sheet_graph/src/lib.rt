@@ -1,4 +1,6 @@
 // The dependence graph of a sheet (`sheet/Sheet.graph_of`). A crate of its own for the check's time.
+#![tactic(auto)]
+
 ghost use Rattle.std.specs.Prelude.{◌≡◌, get_or};
 ghost use Rattle.sheet.specs.Sheet.{no_type, latencies_of, graph_of};
 

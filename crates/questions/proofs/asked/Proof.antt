@@ -4,28 +4,27 @@ use mathlib.Core.Path.{refl, sym, ◌∙◌}
 use borrow.Author.Rules.{rules}
 use Rattle.sheet.specs.Questions.{at_no, at_yes}
 use Rattle.sheet.specs.AnswerLaws.{sheet_in, sheet_inside}
-use Rattle.laws.specs.Tests.{denied, passed}
 use Rattle.questions.proofs.asked.Statement.{statement}
 use Rattle.questions.proofs.asked.Tie as tie
 
-answer_requires : tie.Need-answer-requires
+answer_requires : tie.Need-answer-refusal-requires
 answer_requires c κs = search rules
 
-returns : tie.Need-returns
-returns c = at_no (λ x. c.if1.true (c.before.answer.ensures ∙ sheet_in _ x)) c.before.answer.ensures
+returns : tie.Need-returns-then-refusal-ne0
+returns c = at_no (λ x. c.if-refusal-ne0.true (c.answer-refusal.ensures ∙ sheet_in _ x)) c.answer-refusal.ensures
 
-interval_in_range_requires : tie.Need-interval-in-range-requires
+interval_in_range_requires : tie.Need-interval_in_range-requires
 interval_in_range_requires c κs = search rules
 
-returns_2 : tie.Need-returns-2
+returns_2 : tie.Need-returns-then-not-interval_in_range
 returns_2 c =
-    let i = c.before.before in
-    at_yes (sheet_inside _ (sym i.before.answer.ensures ∙ i.if1.false)) (at_no (denied c.before.interval_in_range.ensures c.if2.true) refl)
+    let i = c in
+    at_yes (sheet_inside _ (sym i.answer-refusal.ensures ∙ i.if-refusal-ne0.false)) (at_no (c.interval_in_range.ensures.no c.if-not-interval_in_range.true) refl)
 
-returns_3 : tie.Need-returns-3
+returns_3 : tie.Need-returns
 returns_3 c =
-    let i = c.before.before in
-    at_yes (sheet_inside _ (sym i.before.answer.ensures ∙ i.if1.false)) (at_yes (passed c.before.interval_in_range.ensures c.if2.false) refl)
+    let i = c in
+    at_yes (sheet_inside _ (sym i.answer-refusal.ensures ∙ i.if-refusal-ne0.false)) (at_yes (c.interval_in_range.ensures.yes c.if-not-interval_in_range.false) refl)
 
 pub asked_spec : {M : Type 1} → statement M
 asked_spec =

@@ -9,16 +9,16 @@ use borrow.Author.Rules.{rules}
 use Rattle.sheet_graph.proofs.latency_of.Statement.{statement}
 use Rattle.sheet_graph.proofs.latency_of.Tie as tie
 
-returns : tie.Need-returns
-returns c = sym (ap (λ (t : ResourceType). t.latency) (get_or-eq_default c.before.args.t1 no_type (omega arith)))
+returns : tie.Need-returns-then-resource-ge-MOST_TYPES
+returns c = sym (ap (λ (t : ResourceType). t.latency) (get_or-eq_default c.args.types no_type (omega arith)))
 
-mul_found : tie.Need-overflow-mul-found
+mul_found : tie.Need-offset_bounds-types-resource
 mul_found c = search rules
 
-array_copy_out_found : tie.Need-array-copy-out-found
+array_copy_out_found : tie.Need-bounds-types-resource
 array_copy_out_found c = search rules
 
-returns_2 : tie.Need-returns-2
+returns_2 : tie.Need-returns
 returns_2 c = search rules
 
 pub latency_of_spec : {M : Type 1} → statement M
