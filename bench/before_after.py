@@ -3,8 +3,8 @@
 
     before_after.py BEFORE AFTER [SHEETS [SEED [FAMILY ..]]]
 
-BEFORE and AFTER are C archives (target/staticlib/libhost.a of two clones, as rt staticlib host makes them). For each
-family of bench/loops.py two rows: every interval that leastplan asks about, and whole sheets, from 1 to the first plan
+BEFORE and AFTER are C archives (crates/host/out/libhost.a of two clones, as rt lib makes them). For each family of
+bench/loops.py two rows: every interval that leastplan asks about, and whole sheets, from 1 to the first plan
 or to the cap. A time is processor time, the least of several runs, one of each build in turn. A question that takes
 longer than the limit is left, and with it the rest of its sheet. A sheet that has such a one, or that takes long, is
 asked about once. Both must give the same bytes wherever both answered.

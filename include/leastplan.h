@@ -1,5 +1,5 @@
-/* Calls of leastplan for host programs in C. Link target/staticlib/libhost.a, which `rt staticlib host` builds.
-   Placing into a table that the host keeps is in leastplan_placing.h.
+/* Calls of leastplan for host programs in C. Link crates/host/out/libhost.a, which `rt lib` in
+   crates/host/ builds. Placing into a table that the host keeps is in leastplan_placing.h.
 
    Each call takes the bytes of a loop sheet and their count; a null pointer with count 0 is an empty sheet (2).
    Each returns an answer and one number, which is 0 with every answer but 0; leastplan_judge returns an answer alone.
