@@ -202,6 +202,7 @@ def turn(given, text, aliases, other):
             else:
                 typed = re.findall(r"(?:\(([\w']+) : )?(?<![\w.-])(?:%s)\.(%s)" % (alias, PART), chunk)
                 goal_of[m[1]] = ("typed", [(n, paths.place(p)) for n, p in typed if paths.place(p)])
+                chunk = turned_body(paths, chunk, {n: (paths.place(p), paths.place(p), n) for n, p in typed if n and paths.place(p)})
             result.append(chunk)
             continue
         m = re.match(r"([\w'+-]+)((?:\s+(?:[\w']+|\{[^}]*\}|_))*)\s*=", chunk)

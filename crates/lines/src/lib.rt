@@ -1,4 +1,6 @@
 // A list of lines by value, for what is made line by line, and its text into a lent buffer.
+#![tactic(auto)]
+
 ghost use Rattle.std.specs.Prelude.{◌≡◌, map, ◌≤◌, length, take};
 ghost use Rattle.text.specs.Text.{line_text, over, buffer_of};
 ghost use Rattle.text.specs.Line.{key_of, text_of, written_of};
@@ -14,7 +16,7 @@ const HEAD_LINES: usize = 2;
 pub const MOST_LINES: usize = HEAD_LINES + MOST_OPERATIONS;
 
 // The first `count` lines, all of them where `count` is above that.
-#[derive(Drop)]
+#[derive(Clone, Copy)]
 pub struct Lines {
     pub count: usize,
     pub lines: [Line; MOST_LINES],

@@ -1,4 +1,6 @@
 // Reads one line of text: a key with its equals sign, whole numbers split by single commas, and a line feed.
+#![tactic(auto)]
+
 ghost use Rattle.std.specs.Prelude.{◌≡◌, [], ◌≤◌, eqb, length, drop};
 ghost use Rattle.scan_number.specs.Number.{seen_whole, within_whole};
 ghost use Rattle.scan.specs.Line.{most_numbers, stripped, seen_place, within_place, field_of, fields_from, due_line, seen_line, LineFits};
@@ -43,7 +45,7 @@ fn read_field(s: &[u8], at: usize, more: usize, minus: bool) -> Whole
 }
 
 // The place after a key, where the bytes begin with it.
-#[derive(Drop)]
+#[derive(Clone, Copy)]
 pub enum Place {
     After(usize),
     Missing,
@@ -71,7 +73,7 @@ pub fn after_key(s: &[u8], at: usize, key: &[u8]) -> Place
 
 // A line's numbers and the place after its line feed. Values past the line's numbers are 0; of a line that is not ok
 // everything is 0.
-#[derive(Drop)]
+#[derive(Clone, Copy)]
 pub struct Line {
     pub ok: bool,
     pub values: [i32; MOST_NUMBERS],
@@ -142,7 +144,7 @@ const MOST_PLAIN: usize = 3;
 
 // A plain line's numbers and the place after its line feed. What is past its numbers is 0; of a line that is not ok
 // everything is 0.
-#[derive(Drop)]
+#[derive(Clone, Copy)]
 pub struct PlainLine {
     pub ok: bool,
     pub first: usize,

@@ -1,6 +1,6 @@
 -- A line of any count of numbers: its key, one or more numbers split by single commas, none with a sign, and a line
 -- feed.
-use Rattle.std.specs.Prelude.{ℕ, zero, suc, ◌+◌, ◌≤◌, ◌<◌, ◌≡◌, List, [], ◌∷◌, ◌++◌, true, false, cond, leb, length, drop, take, get_or, replicate}
+use Rattle.std.specs.Prelude.{ℕ, zero, suc, ◌≤◌, ◌<◌, ◌≡◌, List, [], ◌∷◌, ◌++◌, true, false, cond, leb, length, drop, take, get_or, replicate}
 use Rattle.text.specs.Sizes.{four_digits}
 use Rattle.scan_number.specs.Number.{on_number, number, class_of}
 use Rattle.scan.specs.Line.{on_rest, stripped}

@@ -1,4 +1,6 @@
 // Reads a line with any count of numbers up to a given one. A crate of its own for the check's time.
+#![tactic(auto)]
+
 ghost use Rattle.std.specs.Prelude.{◌≡◌, [], ◌≤◌, length, drop};
 ghost use Rattle.scan_list.specs.List.{most_items, item_of, seen_item, within_item, items_from, due_list, seen_items, ItemsFit};
 
@@ -9,7 +11,7 @@ use scan_number::{Class, Number, classify, read_number};
 pub const MOST_ITEMS: usize = 25;
 
 // A number and the place after the byte that ends it: a comma, so that another number is due, or a line feed.
-#[derive(Drop)]
+#[derive(Clone, Copy)]
 enum Item {
     More(usize, usize),
     Last(usize, usize),
@@ -38,7 +40,7 @@ fn read_item(s: &[u8], at: usize) -> Item
 
 // A line's numbers and the place after its line feed. Values past the count are 0; of a line that is not ok everything
 // is 0.
-#[derive(Drop)]
+#[derive(Clone, Copy)]
 pub struct Items {
     pub ok: bool,
     pub count: usize,

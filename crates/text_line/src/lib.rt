@@ -1,5 +1,7 @@
 // One line of text, made and written into a lent buffer; and a whole text. `text` has the keys, the numbers and what
 // a line is: text/specs/Line.antt. A crate of its own for the check's time.
+#![tactic(auto)]
+
 ghost use Rattle.std.specs.Prelude.{◌≡◌, [], ◌∷◌, ◌+◌, ◌≤◌, ◌<◌, min, pos, length, take};
 ghost use Rattle.text.specs.Text.{end_of, signed_text, line_text, over, buffer_of};
 ghost use Rattle.text.specs.Line.{key_of, text_of, line_of_four, count_of, written_of};

@@ -1,12 +1,14 @@
 // The words of a command, `COMMAND [interval=L] [pair=P]`: what each argument says; `requests` tells what all of them
 // ask for. The program `ask` takes the words from the system and has what they ask for answered.
+#![tactic(auto)]
+
 ghost use Rattle.std.specs.Prelude.{◌≡◌};
 ghost use Rattle.words.specs.Arguments.{number_after, once_more, with_word};
 
 use scan::NO_MINUS;
 
 // A command and its numbers: an interval, and a pair.
-#[derive(Drop)]
+#[derive(Clone, Copy)]
 pub enum Command {
     Bounds,
     Starts(usize),
@@ -27,7 +29,7 @@ pub const PAIR: usize = 1;
 // or a script on a placing table, both at an interval, or another supplier's answer judged; or what is wrong with them:
 // no such command, a word that is no argument, an argument that is missing, given more than once, or not taken by this
 // command.
-#[derive(Drop)]
+#[derive(Clone, Copy)]
 pub enum Asked {
     Do(Command),
     PageOfPlan(usize),
@@ -42,7 +44,7 @@ pub enum Asked {
 
 // The arguments so far: how often each was given, 2 for twice or more, and its last number; whether some word is no
 // argument.
-#[derive(Drop)]
+#[derive(Clone, Copy)]
 pub struct Given {
     pub intervals: usize,
     pub interval: usize,
@@ -61,7 +63,7 @@ pub const NOTHING: Given = Given {
 };
 
 // The number of an argument, or that the word is another.
-#[derive(Drop)]
+#[derive(Clone, Copy)]
 enum Argument {
     Number(usize),
     Other,

@@ -10,13 +10,13 @@ use Rattle.lines.proofs.line_count.Tie as tie
 
 -- the array is whole
 whole : (c : tie.Start) → length c.args.ls.lines ≡ most_lines
-whole c = sym (length-map c.args.ls.lines _) ∙ c.well-formed.0.1.1.1.0.1.0.1
+whole c = sym (length-map c.args.ls.lines _) ∙ c.well_formed.0.1.1.1.0.1.0.1
 
-returns : tie.Need-returns
-returns c = (all_lines _ (whole c.before.before) c.if1.true, omega arith)
+returns : tie.Need-returns-then-ls-gt-MOST_LINES
+returns c = (all_lines _ (whole c) c.if-ls-gt-MOST_LINES.true, omega arith)
 
-returns_2 : tie.Need-returns-2
-returns_2 c = (some_lines _ (whole c.before.before) c.if1.false, omega arith)
+returns_2 : tie.Need-returns
+returns_2 c = (some_lines _ (whole c) c.if-ls-gt-MOST_LINES.false, omega arith)
 
 pub line_count_spec : {M : Type 1} → statement M
 line_count_spec = tie.close (tie.spec returns returns_2)

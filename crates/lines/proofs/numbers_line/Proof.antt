@@ -15,42 +15,42 @@ use borrow.Author.Rules.{rules}
 use Rattle.lines.proofs.numbers_line.Statement.{statement}
 use Rattle.lines.proofs.numbers_line.Tie as tie
 
-abbrev invariant_loop : tie.invariant_loop
+abbrev invariant_loop : tie.invariant-loop-i
 invariant_loop key count numbers values₀ i₀ values i =
     (i ≤ most_values) × (length values ≡ most_values) × ((k : ℕ) → k < i → get_or values k (pos 0) ≡ capped (get_or numbers k 0))
 
-abbrev decreases_loop : tie.decreases_loop
+abbrev decreases_loop : tie.decreases-loop-i
 decreases_loop key count numbers values₀ i₀ values i = most_values - i
 
-loop_holds : tie.Need-loop-init invariant_loop decreases_loop
+loop_holds : tie.Need-loop-i-init invariant_loop decreases_loop
 loop_holds c = (omega arith, refl, λ k h. absurd (omega arith))
 
-mul_number : tie.Need-overflow-mul-number invariant_loop decreases_loop
+mul_number : tie.Need-offset_bounds-numbers-i invariant_loop decreases_loop
 mul_number c = omega arith
 
-array_read_number : tie.Need-array-read-number invariant_loop decreases_loop
+array_read_number : tie.Need-bounds-numbers-i invariant_loop decreases_loop
 array_read_number c = omega arith
 
 number_requires : tie.Need-number-requires invariant_loop decreases_loop
 number_requires c κs = search rules
 
-mul_values : tie.Need-overflow-mul-values invariant_loop decreases_loop
+mul_values : tie.Need-offset_bounds-values-i invariant_loop decreases_loop
 mul_values c = omega arith
 
-array_set_from_values : tie.Need-array-set-from-values invariant_loop decreases_loop
+array_set_from_values : tie.Need-bounds-values-i invariant_loop decreases_loop
 array_set_from_values c = omega arith
 
-add_i : tie.Need-overflow-add-i invariant_loop decreases_loop
+add_i : tie.Need-overflow_step-i invariant_loop decreases_loop
 add_i c = omega arith
 
-loop_less : tie.Need-loop-smaller invariant_loop decreases_loop
+loop_less : tie.Need-loop-i-smaller invariant_loop decreases_loop
 loop_less c = omega arith
 
-loop_again : tie.Need-loop-preserved invariant_loop decreases_loop
+loop_again : tie.Need-loop-i-preserved invariant_loop decreases_loop
 loop_again c =
-    let l = c.before.before.loop in
-    let a = c.before.before.before.args.t3 in
-    let v = kept (fits32 c.number.type-inv) ∙ c.number.ensures in (
+    let l = c.loop-i in
+    let a = c.args.numbers in
+    let v = kept (fits32 c.number.type_inv) ∙ c.number.ensures in (
       omega arith,
       length-set l.values l.i _ ∙ l.invariant.1,
       store_more (λ k z. z ≡ capped (get_or a k 0)) l.values l.i _ (pos 0) (omega arith) v l.invariant.2,
@@ -58,10 +58,10 @@ loop_again c =
 
 returns : tie.Need-returns invariant_loop decreases_loop
 returns c =
-    let l = c.before.loop in
-    let a = c.before.before.args in
-    let n : length a.t3 ≡ most_operations = search rules in
-    numbers_text a.key a.count a.t3 l.values n l.invariant.1 (λ k h. l.invariant.2 k (omega arith))
+    let l = c.loop-i in
+    let a = c.args in
+    let n : length a.numbers ≡ most_operations = search rules in
+    numbers_text a.key a.count a.numbers l.values n l.invariant.1 (λ k h. l.invariant.2 k (omega arith))
 
 pub numbers_line_spec : {M : Type 1} → statement M
 numbers_line_spec =

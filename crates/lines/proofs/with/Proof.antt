@@ -7,19 +7,19 @@ use borrow.Author.Rules.{rules}
 use Rattle.lines.proofs.with.Statement.{statement}
 use Rattle.lines.proofs.with.Tie as tie
 
-returns : tie.Need-returns
+returns : tie.Need-returns-then-at-ge-MOST_LINES
 returns c = sym (with_full _ _ (omega arith))
 
-mul_lines : tie.Need-overflow-mul-lines
+mul_lines : tie.Need-offset_bounds-lines-at
 mul_lines c = search rules
 
-array_set_from_lines : tie.Need-array-set-from-lines
+array_set_from_lines : tie.Need-bounds-lines-at
 array_set_from_lines c = search rules
 
-add_t6 : tie.Need-overflow-add-t6
+add_t6 : tie.Need-overflow_add-result
 add_t6 c = search rules
 
-returns_2 : tie.Need-returns-2
+returns_2 : tie.Need-returns
 returns_2 c = sym (with_room _ _ (omega arith))
 
 pub with_spec : {M : Type 1} → statement M

@@ -11,24 +11,24 @@ use Rattle.scan.proofs.ends_number.Tie as tie
 classify_requires : tie.Need-classify-requires
 classify_requires c κs = search rules
 
-enum_told : tie.Need-enum-told
+enum_told : tie.Need-enum_told-1
 enum_told c = search rules
 
-enum_told_2 : tie.Need-enum-told-2
+enum_told_2 : tie.Need-enum_told-in-LineFeed
 enum_told_2 c = search rules
 
-returns : tie.Need-returns
+returns : tie.Need-returns-in-Comma
 returns c =
-    let k = c.before.before in
-    comma_ends _ k.before.args.more (byte_of _ (sym k.classify.ensures ∙ c.enum_told.given.1))
+    let k = c in
+    comma_ends _ k.args.more (byte_of _ (sym k.classify.ensures ∙ c.in-Comma.is))
 
-returns_2 : tie.Need-returns-2
+returns_2 : tie.Need-returns-in-LineFeed
 returns_2 c =
-    let k = c.before.before in
-    feed_ends _ k.before.args.more (byte_of _ (sym k.classify.ensures ∙ c.enum-told2.given.1))
+    let k = c in
+    feed_ends _ k.args.more (byte_of _ (sym k.classify.ensures ∙ c.in-LineFeed.is))
 
-returns_3 : tie.Need-returns-3
-returns_3 c = other_ends _ c.before.before.args.more (rw c.before.classify.ensures at c.match.keys3)
+returns_3 : tie.Need-returns-in_default
+returns_3 c = other_ends _ c.args.more (rw c.classify.ensures at c.in_default.in_default-own.keys3)
 
 pub ends_number_spec : {M : Type 1} → statement M
 ends_number_spec = tie.close (tie.spec classify_requires enum_told enum_told_2 returns returns_2 returns_3)

@@ -9,47 +9,47 @@ use borrow.Author.Rules.{rules}
 use Rattle.scan.proofs.read_line.Statement.{statement}
 use Rattle.scan.proofs.read_line.Tie as tie
 
-returns : tie.Need-returns
+returns : tie.Need-returns-then-count-lt1
 unfolding seen_line
-returns c = (sym (line_none _ _ _ _ c.if1.true), fits_none _ _)
+returns c = (sym (line_none _ _ _ _ c.if-count-lt1.true), fits_none _ _)
 
-returns_2 : tie.Need-returns-2
+returns_2 : tie.Need-returns-then-count-gt-MOST_NUMBERS
 unfolding seen_line
-returns_2 c = (sym (line_long _ _ _ _ c.if2.true), fits_none _ _)
+returns_2 c = (sym (line_long _ _ _ _ c.if-count-gt-MOST_NUMBERS.true), fits_none _ _)
 
-returns_3 : tie.Need-returns-3
+returns_3 : tie.Need-returns-then-s-at
 unfolding seen_line
 returns_3 c =
-    let a = c.before.before.before.before.before.args in
-    (sym (line_past a.s.now a.key.now a.at _ _ (omega arith) c.before.before.if1.false c.before.if2.false), fits_none _ _)
+    let a = c.args in
+    (sym (line_past a.s.now a.key.now a.at _ _ (omega arith) c.if-count-lt1.false c.if-count-gt-MOST_NUMBERS.false), fits_none _ _)
 
-after_key_requires : tie.Need-after-key-requires
+after_key_requires : tie.Need-after_key-requires
 after_key_requires c κs = search rules
 
-enum_known_start : tie.Need-enum-known-start
+enum_known_start : tie.Need-enum_known-start
 enum_known_start c = search rules
 
-read_numbers_requires : tie.Need-read-numbers-requires
+read_numbers_requires : tie.Need-read_numbers-requires
 read_numbers_requires c κs =
-    let k = c.before.before.before in
-    (within_after _ k.after-key.ensures.1 c.before.start.given.1, k.before.before.if2.false)
+    let k = c in
+    (within_after _ k.after_key.ensures.1 c.in-After.is, k.if-count-gt-MOST_NUMBERS.false)
 
-enum_told : tie.Need-enum-told
+enum_told : tie.Need-enum_told-1
 enum_told c = search rules
 
-returns_4 : tie.Need-returns-4
+returns_4 : tie.Need-returns-in-After
 returns_4 c =
-    let g = c.before.before in
-    let k = g.before.before in
-    let f = k.before.before in
-    (c.read-numbers.ensures.0 ∙ sym (line_after _ _ _ _ _ f.before.if1.false f.if2.false (seen_after _ k.after-key.ensures.0 g.start.given.1)), c.read-numbers.ensures.1)
+    let g = c in
+    let k = g in
+    let f = k in
+    (c.read_numbers.ensures.0 ∙ sym (line_after _ _ _ _ _ f.if-count-lt1.false f.if-count-gt-MOST_NUMBERS.false (seen_after _ k.after_key.ensures.0 g.in-After.is)), c.read_numbers.ensures.1)
 
-returns_5 : tie.Need-returns-5
+returns_5 : tie.Need-returns-in-Missing
 unfolding seen_line
 returns_5 c =
-    let k = c.before.before in
-    let f = k.before.before in
-    (sym (line_missing _ _ _ _ f.before.if1.false f.if2.false (seen_missing _ k.after-key.ensures.0 c.enum_told.given.1)), fits_none _ _)
+    let k = c in
+    let f = k in
+    (sym (line_missing _ _ _ _ f.if-count-lt1.false f.if-count-gt-MOST_NUMBERS.false (seen_missing _ k.after_key.ensures.0 c.in-Missing.is)), fits_none _ _)
 
 pub read_line_spec : {M : Type 1} → statement M
 read_line_spec =

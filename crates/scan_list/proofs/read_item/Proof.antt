@@ -9,82 +9,79 @@ use borrow.Author.Rules.{rules}
 use Rattle.scan_list.proofs.read_item.Statement.{statement}
 use Rattle.scan_list.proofs.read_item.Tie as tie
 
-read_number_requires : tie.Need-read-number-requires
+read_number_requires : tie.Need-read_number-requires
 read_number_requires c κs = search rules
 
-enum_known_n : tie.Need-enum-known-n
+enum_known_n : tie.Need-enum_known-n
 enum_known_n c = search rules
 
-returns : tie.Need-returns
+returns : tie.Need-returns-then-s-next
 unfolding seen_item within_item
-returns c = let n = c.before.before.n.given in
-    let r = c.before.before.before.before.read_number in
-    (sym (item_short _ _ _ _ (seen_value _ r.ensures.0 n.1) c.if1.true), tt)
+returns c =
+    let r = c.read_number in
+    (sym (item_short _ _ _ _ (seen_value _ r.ensures.0 c.in-Value.is) c.if-s-next.true), tt)
 
-shared_slice_read_b : tie.Need-shared-slice-read-b
+shared_slice_read_b : tie.Need-bounds-s-next
 shared_slice_read_b c = search rules
 
 classify_requires : tie.Need-classify-requires
 classify_requires c κs = search rules
 
-enum_told : tie.Need-enum-told
+enum_told : tie.Need-enum_told-1
 enum_told c = search rules
 
-cast_t14 : tie.Need-overflow-cast-t14
+cast_t14 : tie.Need-overflow_cast-result
 cast_t14 c = search rules
 
-add_t15 : tie.Need-overflow-add-t15
+add_t15 : tie.Need-overflow_add-result
 add_t15 c = search rules
 
-enum_told_2 : tie.Need-enum-told-2
+enum_told_2 : tie.Need-enum_told-in-LineFeed
 enum_told_2 c = search rules
 
-cast_t16 : tie.Need-overflow-cast-t16
+cast_t16 : tie.Need-overflow_cast-result-in-LineFeed
 cast_t16 c = search rules
 
-add_t17 : tie.Need-overflow-add-t17
+add_t17 : tie.Need-overflow_add-result-in-LineFeed
 add_t17 c = search rules
 
-enum_told_3 : tie.Need-enum-told-3
+enum_told_3 : tie.Need-enum_told-in-Malformed
 enum_told_3 c = search rules
 
-returns_2 : tie.Need-returns-2
+returns_2 : tie.Need-returns-in-Comma
 unfolding seen_item within_item
 returns_2 c =
-    let m = c.before.before in
-    let t = m.before.before in
-    let n = t.before.before.n.given in
-    let r = t.before.before.before.before.read_number in
-    let w = within_value _ r.ensures.1 n.1 in
-    let e = item_comma _ _ _ _ (seen_value _ r.ensures.0 n.1) t.if1.false _ m.classify.ensures in
-    (sym (e c.enum_told.given.1), (omega arith, w.1))
+    let m = c in
+    let t = m in
+    let r = t.read_number in
+    let w = within_value _ r.ensures.1 t.in-Value.is in
+    let e = item_comma _ _ _ _ (seen_value _ r.ensures.0 t.in-Value.is) t.if-s-next.false _ m.classify.ensures in
+    (sym (e c.in-Comma.is), (omega arith, w.1))
 
-returns_3 : tie.Need-returns-3
+returns_3 : tie.Need-returns-in-LineFeed
 unfolding seen_item within_item
 returns_3 c =
-    let m = c.before.before in
-    let t = m.before.before in
-    let n = t.before.before.n.given in
-    let r = t.before.before.before.before.read_number in
-    let w = within_value _ r.ensures.1 n.1 in
-    let e = item_feed _ _ _ _ (seen_value _ r.ensures.0 n.1) t.if1.false _ m.classify.ensures in
-    (sym (e c.enum-told2.given.1), (omega arith, w.1))
+    let m = c in
+    let t = m in
+    let r = t.read_number in
+    let w = within_value _ r.ensures.1 t.in-Value.is in
+    let e = item_feed _ _ _ _ (seen_value _ r.ensures.0 t.in-Value.is) t.if-s-next.false _ m.classify.ensures in
+    (sym (e c.in-LineFeed.is), (omega arith, w.1))
 
-returns_4 : tie.Need-returns-4
+returns_4 : tie.Need-returns-in_default
 unfolding seen_item within_item
 returns_4 c =
-    let m = c.before in
-    let t = m.before.before in
-    let n = t.before.before.n.given in
-    let r = t.before.before.before.before.read_number in
-    let e = item_other _ _ _ _ (seen_value _ r.ensures.0 n.1) t.if1.false _ m.classify.ensures in
-    (sym (e c.match2.keys3), tt)
+    let m = c in
+    let t = m in
+    let r = t.read_number in
+    let e = item_other _ _ _ _ (seen_value _ r.ensures.0 t.in-Value.is) t.if-s-next.false _ m.classify.ensures in
+    (sym (e c.in_default.in_default-own.keys3), tt)
 
-returns_5 : tie.Need-returns-5
+returns_5 : tie.Need-returns-in-Malformed
 unfolding seen_item within_item
 returns_5 c =
-    let r = c.before.before.read_number in
-    (sym (item_none _ (seen_malformed _ r.ensures.0 c.enum-told3.given.1)), tt)
+    let r = c.read_number in
+    (sym (item_none _ (seen_malformed _ r.ensures.0 c.in-Malformed.is)), tt)
 
 pub read_item_spec : {M : Type 1} → statement M
 read_item_spec =

@@ -13,90 +13,88 @@ use Rattle.scan_list.proofs.Lists.{Held, held_none, held_more, fits_items, fits_
 use Rattle.scan_list.proofs.read_items.Statement.{statement}
 use Rattle.scan_list.proofs.read_items.Tie as tie
 
-abbrev invariant_loop : tie.invariant_loop
+abbrev invariant_loop : tie.invariant-loop-i
 invariant_loop s start most values₀ p₀ i₀ values p i =
     (i ≤ most) × (p ≤ length s) × Held i values
     × (items_from (most - i) (take i values) (drop p s) ≡ items_from most [] (drop start s))
 
-abbrev decreases_loop : tie.decreases_loop
+abbrev decreases_loop : tie.decreases-loop-i
 decreases_loop s start most values₀ p₀ i₀ values p i = most - i
 
-loop_holds : tie.Need-loop-init invariant_loop decreases_loop
+loop_holds : tie.Need-loop-i-init invariant_loop decreases_loop
 loop_holds c = (omega arith, omega arith, held_none, rw (sub-zero _))
 
-read_item_requires : tie.Need-read-item-requires invariant_loop decreases_loop
+read_item_requires : tie.Need-read_item-requires invariant_loop decreases_loop
 read_item_requires c κs = tt
 
-enum_known_n : tie.Need-enum-known-n invariant_loop decreases_loop
-enum_known_n c = c.match.keys1
+enum_known_n : tie.Need-enum_known-n invariant_loop decreases_loop
+enum_known_n c = c.in-More-1.keys1
 
-mul_values : tie.Need-overflow-mul-values invariant_loop decreases_loop
+mul_values : tie.Need-offset_bounds-values-i invariant_loop decreases_loop
 mul_values c = omega arith
 
-array_write_values : tie.Need-array-write-values invariant_loop decreases_loop
+array_write_values : tie.Need-bounds-values-i invariant_loop decreases_loop
 array_write_values c = omega arith
 
-enum_known_n_2 : tie.Need-enum-known-n-2 invariant_loop decreases_loop
-enum_known_n_2 c = c.match.keys2
+enum_known_n_2 : tie.Need-enum_known-n-in-Last-1 invariant_loop decreases_loop
+enum_known_n_2 c = c.in-Last-1.keys2
 
-mul_values_2 : tie.Need-overflow-mul-values-2 invariant_loop decreases_loop
+mul_values_2 : tie.Need-offset_bounds-values-i-in-Last invariant_loop decreases_loop
 mul_values_2 c = omega arith
 
-array_write_values_2 : tie.Need-array-write-values-2 invariant_loop decreases_loop
+array_write_values_2 : tie.Need-bounds-values-i-in-Last invariant_loop decreases_loop
 array_write_values_2 c = omega arith
 
-add_t16 : tie.Need-overflow-add-t16 invariant_loop decreases_loop
+add_t16 : tie.Need-overflow_add-result invariant_loop decreases_loop
 add_t16 c = omega arith
 
-returns : tie.Need-returns invariant_loop decreases_loop
+returns : tie.Need-returns-in-Last invariant_loop decreases_loop
 unfolding seen_items
 returns c =
-    let m = c.before.before.before in
-    let l = m.before.before.loop in
-    let n = c.before.n2.given in
-    let w = within_last _ m.read-item.ensures.1 n.1 in
+    let m = c in
+    let l = m.loop-i in
+    let w = within_last _ m.read_item.ensures.1 c.in-Last.is in
     let k = l.invariant.2.whole in
-    let g = seen_last _ m.read-item.ensures.0 n.1 in
-    let h = held_more l.i l.values n.0.0 (omega arith) l.invariant.2 w.1 in (
-      sym (items_last _ l.i l.values _ m.before.loop-test.true (omega arith) _ _ g) ∙ l.invariant.3,
+    let g = seen_last _ m.read_item.ensures.0 c.in-Last.is in
+    let h = held_more l.i l.values c.in-Last.n (omega arith) l.invariant.2 w.1 in (
+      sym (items_last _ l.i l.values _ m.loop-i-test.true (omega arith) _ _ g) ∙ l.invariant.3,
       fits_items _ _ _ _ (omega arith) (omega arith) w.0 h,
     )
 
-enum_told : tie.Need-enum-told invariant_loop decreases_loop
-enum_told c = c.match.keys3
+enum_told : tie.Need-enum_told-1 invariant_loop decreases_loop
+enum_told c = c.in-Neither-1.keys3
 
-returns_2 : tie.Need-returns-2 invariant_loop decreases_loop
+returns_2 : tie.Need-returns-in-Neither invariant_loop decreases_loop
 unfolding seen_items
 returns_2 c =
-    let m = c.before.before in
-    let l = m.before.before.loop in
+    let m = c in
+    let l = m.loop-i in
     let k = l.invariant.2.whole in
-    let e = items_stop _ l.i l.values _ m.before.loop-test.true (omega arith) in
-    (sym (e (seen_neither _ m.read-item.ensures.0 c.enum_told.given.1)) ∙ l.invariant.3, fits_no_items _)
+    let e = items_stop _ l.i l.values _ m.loop-i-test.true (omega arith) in
+    (sym (e (seen_neither _ m.read_item.ensures.0 c.in-Neither.is)) ∙ l.invariant.3, fits_no_items _)
 
-add_i : tie.Need-overflow-add-i invariant_loop decreases_loop
+add_i : tie.Need-overflow_add-i invariant_loop decreases_loop
 add_i c = omega arith
 
-loop_less : tie.Need-loop-smaller invariant_loop decreases_loop
+loop_less : tie.Need-loop-i-smaller invariant_loop decreases_loop
 loop_less c = omega arith
 
-loop_again : tie.Need-loop-preserved invariant_loop decreases_loop
+loop_again : tie.Need-loop-i-preserved invariant_loop decreases_loop
 loop_again c =
-    let m = c.before.before.before in
-    let l = m.before.before.loop in
-    let n = c.before.n.given in
-    let w = within_more _ m.read-item.ensures.1 n.1 in
+    let m = c in
+    let l = m.loop-i in
+    let w = within_more _ m.read_item.ensures.1 c.in-More.is in
     let k = l.invariant.2.whole in
-    let g = seen_more _ m.read-item.ensures.0 n.1 in (
+    let g = seen_more _ m.read_item.ensures.0 c.in-More.is in (
       omega arith,
       w.0,
-      held_more l.i l.values n.0.0 (omega arith) l.invariant.2 w.1,
-      items_more _ l.i l.values _ m.before.loop-test.true (omega arith) _ _ g ∙ l.invariant.3,
+      held_more l.i l.values c.in-More.n (omega arith) l.invariant.2 w.1,
+      items_more _ l.i l.values _ m.loop-i-test.true (omega arith) _ _ g ∙ l.invariant.3,
     )
 
-returns_3 : tie.Need-returns-3 invariant_loop decreases_loop
+returns_3 : tie.Need-returns invariant_loop decreases_loop
 unfolding seen_items
-returns_3 c = let l = c.before.loop in
+returns_3 c = let l = c.loop-i in
     (sym (items_full _ l.i l.values _ (omega arith)) ∙ l.invariant.3, fits_no_items _)
 
 pub read_items_spec : {M : Type 1} → statement M

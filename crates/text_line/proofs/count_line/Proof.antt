@@ -13,25 +13,25 @@ use borrow.Author.Rules.{rules}
 use Rattle.text_line.proofs.count_line.Statement.{statement}
 use Rattle.text_line.proofs.count_line.Tie as tie
 
-line_of_requires : tie.Need-line-of-requires
+line_of_requires : tie.Need-line_of-requires
 line_of_requires c κs = search rules
 
-returns : tie.Need-returns
+returns : tie.Need-returns-then-n-gt-GREATEST_NUMBER
 returns c =
-    let a = c.before.before.args in
-    c.line_of.ensures.1 ∙ ap (λ (m : ℕ). line_text (key_of a.key) (pos m ∷ [])) (sym (min-eq_right (omega (arith, c.before.if1.true))))
+    let a = c.args in
+    c.line_of.ensures.1 ∙ ap (λ (m : ℕ). line_text (key_of a.key) (pos m ∷ [])) (sym (min-eq_right (omega (arith, c.if-n-gt-GREATEST_NUMBER.true))))
 
-cast_line_of : tie.Need-overflow-cast-line-of
+cast_line_of : tie.Need-overflow_cast-n
 cast_line_of c = search rules
 
-line_of_requires_2 : tie.Need-line-of-requires-2
+line_of_requires_2 : tie.Need-line_of-requires-2
 line_of_requires_2 c κs = search rules
 
-returns_2 : tie.Need-returns-2
+returns_2 : tie.Need-returns
 returns_2 c =
-    let a = c.before.before.args in
-    c.line-of2.ensures.1 ∙ ap (λ (z : ℤ). line_text (key_of a.key) (z ∷ [])) (cast_kept a.n (omega arith))
-    ∙ ap (λ (m : ℕ). line_text (key_of a.key) (pos m ∷ [])) (sym (min-eq_left c.before.if1.false))
+    let a = c.args in
+    c.line_of-2.ensures.1 ∙ ap (λ (z : ℤ). line_text (key_of a.key) (z ∷ [])) (cast_kept a.n (omega arith))
+    ∙ ap (λ (m : ℕ). line_text (key_of a.key) (pos m ∷ [])) (sym (min-eq_left c.if-n-gt-GREATEST_NUMBER.false))
 
 pub count_line_spec : {M : Type 1} → statement M
 count_line_spec =

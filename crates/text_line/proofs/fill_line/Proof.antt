@@ -25,92 +25,92 @@ use Rattle.text_line.proofs.fill_line.Tie as tie
 abbrev numbers : Line → List ℕ
 numbers l = joined (take l.count l.values)
 
-abbrev invariant_loop : tie.invariant_loop
+abbrev invariant_loop : tie.invariant-loop-i
 invariant_loop out₀ line n at₀ i₀ out at i =
     (i ≤ n) × Progress (take at₀ out₀ ++ numbers line) out₀ out (joined (drop i (take line.count line.values))) at
 
-abbrev decreases_loop : tie.decreases_loop
+abbrev decreases_loop : tie.decreases-loop-i
 decreases_loop out₀ line n at₀ i₀ out at i = n - i
 
-value_count_requires : tie.Need-value-count-requires invariant_loop decreases_loop
+value_count_requires : tie.Need-value_count-n-requires invariant_loop decreases_loop
 value_count_requires c κs = search rules
 
-put_key_requires : tie.Need-put-key-requires invariant_loop decreases_loop
-put_key_requires c κs = let a = c.before.before.before.args.t2 in
+put_key_requires : tie.Need-put_key-at-requires invariant_loop decreases_loop
+put_key_requires c κs = let a = c.args.line in
     let t = ap length (text_is a) ∙ length-append (key_of a.key) (numbers a) in
     omega arith
 
-loop_holds : tie.Need-loop-init invariant_loop decreases_loop
-loop_holds c = let a = c.before.before.before.before.before.before.args.t2 in
-    let k = c.before.before.put-key in
+loop_holds : tie.Need-loop-i-init invariant_loop decreases_loop
+loop_holds c = let a = c.args.line in
+    let k = c.put_key-at in
     let t = ap length (text_is a) ∙ length-append (key_of a.key) (numbers a) in
     let r = k.ensures.0 in
-    let z = k.auto.0 in
-    (omega arith, begin_at (numbers a) k.new.0 k.result (omega arith))
+    let z = k.auto.out in
+    (omega arith, begin_at (numbers a) k.new.out k.result (omega arith))
 
-mul_put_value : tie.Need-overflow-mul-put-value invariant_loop decreases_loop
+mul_put_value : tie.Need-offset_bounds-line-i invariant_loop decreases_loop
 mul_put_value c = omega arith
 
-element_copy_out_put_value : tie.Need-element-copy-out-put-value invariant_loop decreases_loop
+element_copy_out_put_value : tie.Need-bounds-line-i invariant_loop decreases_loop
 element_copy_out_put_value c = omega arith
 
-sub_put_value : tie.Need-overflow-sub-put-value invariant_loop decreases_loop
+sub_put_value : tie.Need-overflow_sub-n invariant_loop decreases_loop
 sub_put_value c = omega arith
 
-sub_put_value_2 : tie.Need-overflow-sub-put-value-2 invariant_loop decreases_loop
+sub_put_value_2 : tie.Need-overflow_sub-n-in-loop-i invariant_loop decreases_loop
 sub_put_value_2 c = omega arith
 
-put_value_requires : tie.Need-put-value-requires invariant_loop decreases_loop
-put_value_requires c κs = let l = c.before.before.before.loop in
-    let a = c.before.before.before.before.before.before.before.before.before.before.args.t2 in
-    let n = c.before.before.before.before.before.before.before.before.value-count in
+put_value_requires : tie.Need-put_value-at-requires invariant_loop decreases_loop
+put_value_requires c κs = let l = c.loop-i in
+    let a = c.args.line in
+    let n = c.value_count-n in
     let rest = joined (drop (l.i + 1) (take a.count a.values)) in
     let v = get_or a.values l.i (pos 0) in
-    let k : to_z w32 (of_z w32 v) ≡ v = kept (fits32 c.put-value-arg2.given) in
-    let f = value_front a.values a.count n.result l.i (to_z w32 (of_z w32 v)) n.ensures.0 c.before.before.loop-test.true k in
+    let k : to_z w32 (of_z w32 v) ≡ v = kept (fits32 c.put_value-arg-in-loop-i-1.given) in
+    let f = value_front a.values a.count n.result l.i (to_z w32 (of_z w32 v)) n.ensures.0 c.loop-i-test.true k in
     let piece = value_text (to_z w32 (of_z w32 v)) (n.result - l.i - 1) in
     let r = room piece rest (to f l.invariant.1) in
     let h = value_length (to_z w32 (of_z w32 v)) (n.result - l.i - 1) in
     omega arith
 
-add_i : tie.Need-overflow-add-i invariant_loop decreases_loop
+add_i : tie.Need-overflow_step-i invariant_loop decreases_loop
 add_i c = omega arith
 
-loop_less : tie.Need-loop-smaller invariant_loop decreases_loop
+loop_less : tie.Need-loop-i-smaller invariant_loop decreases_loop
 loop_less c = omega arith
 
-loop_again : tie.Need-loop-preserved invariant_loop decreases_loop
-loop_again c = let l = c.before.before.before.before.before.before.loop in
-    let a = c.before.before.before.before.before.before.before.before.before.before.before.before.before.args.t2 in
-    let n = c.before.before.before.before.before.before.before.before.before.before.before.value-count in
+loop_again : tie.Need-loop-i-preserved invariant_loop decreases_loop
+loop_again c = let l = c.loop-i in
+    let a = c.args.line in
+    let n = c.value_count-n in
     let rest = joined (drop (l.i + 1) (take a.count a.values)) in
     let v = get_or a.values l.i (pos 0) in
-    let k : to_z w32 (of_z w32 v) ≡ v = kept (fits32 c.before.before.before.put-value-arg2.given) in
-    let f = value_front a.values a.count n.result l.i (to_z w32 (of_z w32 v)) n.ensures.0 c.before.before.before.before.before.loop-test.true k in
+    let k : to_z w32 (of_z w32 v) ≡ v = kept (fits32 c.put_value-arg-in-loop-i-1.given) in
+    let f = value_front a.values a.count n.result l.i (to_z w32 (of_z w32 v)) n.ensures.0 c.loop-i-test.true k in
     let piece = value_text (to_z w32 (of_z w32 v)) (n.result - l.i - 1) in
-    let p = c.before.before.put-value.ensures in
+    let p = c.put_value-at.ensures in
     (omega arith, next piece rest (to f l.invariant.1) p.0 p.1)
 
-same_length : tie.Need-same-length invariant_loop decreases_loop
-same_length c = let k = c.before.before.before.before.put-key.auto.0 in
-    let z = same_size c.before.loop.invariant.1 in
+same_length : tie.Need-shape_of-out invariant_loop decreases_loop
+same_length c = let k = c.put_key-at.auto.out in
+    let z = same_size c.loop-i.invariant.1 in
     omega arith
 
 returns : tie.Need-returns invariant_loop decreases_loop
-returns c = let l = c.before.loop in
-    let k = c.before.before.before.before.put-key in
-    let n = c.before.before.before.before.before.before.value-count.ensures in
-    let old = c.before.before.before.before.before.before.before.before.args.out.now in
-    let a = c.before.before.before.before.before.before.before.before.args.t2 in
+returns c = let l = c.loop-i in
+    let k = c.put_key-at in
+    let n = c.value_count-n.ensures in
+    let old = c.args.out.now in
+    let a = c.args.line in
     let t = ap length (text_is a) ∙ length-append (key_of a.key) (numbers a) in
     let r = k.ensures.0 in
-    let z = k.auto.0 in
+    let z = k.auto.out in
     let e = finish (to (joined_end (take a.count a.values) l.i (omega arith)) l.invariant.1) in
     let q = e.0 in
-    let u = length-append (take k.result k.new.0) (numbers a) in
-    let w = length-take-le k.result k.new.0 (omega arith) in (
+    let u = length-append (take k.result k.new.out) (numbers a) in
+    let w = length-take-le k.result k.new.out (omega arith) in (
       omega arith,
-      e.1 ∙ sym (pasted_over (numbers a) k.new.0 k.result (omega arith)) ∙ ap (pasted k.result (numbers a)) k.ensures.1
+      e.1 ∙ sym (pasted_over (numbers a) k.new.out k.result (omega arith)) ∙ ap (pasted k.result (numbers a)) k.ensures.1
           ∙ extend (key_of a.key) (numbers a) old k.result k.ensures.0 ∙ ap (λ (x : List ℕ). over x old) (sym (text_is a)),
     )
 

@@ -9,31 +9,31 @@ use borrow.Author.Rules.{rules}
 use Rattle.text_line.proofs.line_of.Statement.{statement}
 use Rattle.text_line.proofs.line_of.Tie as tie
 
-array_set_from_values : tie.Need-array-set-from-values
+array_set_from_values : tie.Need-bounds-values-0
 array_set_from_values c = search rules
 
-array_set_from_values_2 : tie.Need-array-set-from-values-2
+array_set_from_values_2 : tie.Need-bounds-values-1
 array_set_from_values_2 c = search rules
 
-array_set_from_values_3 : tie.Need-array-set-from-values-3
+array_set_from_values_3 : tie.Need-bounds-values-2
 array_set_from_values_3 c = search rules
 
-array_set_from_values_4 : tie.Need-array-set-from-values-4
+array_set_from_values_4 : tie.Need-bounds-values-3
 array_set_from_values_4 c = search rules
 
-returns : tie.Need-returns
+returns : tie.Need-returns-then-count-gt4
 returns c =
-    let a = c.before.args in
-    let f = c.before.ranges in
+    let a = c.args in
+    let f = c.ranges in
     rw (to_z-of_z f.a, to_z-of_z f.b, to_z-of_z f.c, to_z-of_z f.d)
     (of_four _ a.count _ _ _ _ 4 (sym (min-eq_right {n = 4} {m = a.count} (omega arith))))
 
-returns_2 : tie.Need-returns-2
+returns_2 : tie.Need-returns
 returns_2 c =
-    let a = c.before.args in
-    let f = c.before.ranges in
+    let a = c.args in
+    let f = c.ranges in
     rw (to_z-of_z f.a, to_z-of_z f.b, to_z-of_z f.c, to_z-of_z f.d)
-    (of_four _ a.count _ _ _ _ a.count (sym (min-eq_left c.if1.false)))
+    (of_four _ a.count _ _ _ _ a.count (sym (min-eq_left c.if-count-gt4.false)))
 
 pub line_of_spec : {M : Type 1} → statement M
 line_of_spec =

@@ -12,30 +12,30 @@ use borrow.Author.Rules.{rules}
 use Rattle.text_line.proofs.put_value.Statement.{statement}
 use Rattle.text_line.proofs.put_value.Tie as tie
 
-put_signed_at_requires : tie.Need-put-signed-at-requires
-put_signed_at_requires c κs = rw (to_z-of_z c.before.before.ranges.value) (omega arith)
+put_signed_at_requires : tie.Need-put_signed_at-end-requires
+put_signed_at_requires c κs = rw (to_z-of_z c.ranges.value) (omega arith)
 
-end_byte_requires : tie.Need-end-byte-requires
+end_byte_requires : tie.Need-end_byte-requires
 end_byte_requires c κs = search rules
 
-put_byte_at_requires : tie.Need-put-byte-at-requires
-put_byte_at_requires c κs = let p = c.before.before.before.before.put-signed-at in
-    let q = rw (to_z-of_z c.before.before.before.before.before.before.before.ranges.value) at p.ensures.0 in
-    let k = p.auto.0 in
+put_byte_at_requires : tie.Need-put_byte_at-requires
+put_byte_at_requires c κs = let p = c.put_signed_at-end in
+    let q = rw (to_z-of_z c.ranges.value) at p.ensures.0 in
+    let k = p.auto.out in
     omega arith
 
-same_length : tie.Need-same-length
+same_length : tie.Need-shape_of-out
 same_length c = search rules
 
 returns : tie.Need-returns
 unfolding value_text
-returns c = let s = c.before.before.before.before.before.before.before.before.before.before in
+returns c = let s = c in
     let v = s.args.value in
     let old = s.args.out.now in
-    let p = c.before.before.before.before.before.before.before.put-signed-at in
+    let p = c.put_signed_at-end in
     let q = rw (to_z-of_z s.ranges.value) at p.ensures in
-    let e = c.before.before.before.end-byte in
-    let b = c.before.before.put-byte-at.ensures in
+    let e = c.end_byte in
+    let b = c.put_byte_at.ensures in
     let l = value_length v s.args.more in
     let r = q.0 in
     let t = b.0 in (

@@ -6,11 +6,11 @@ use Rattle.text.specs.Joined.{all_values, some_values}
 use Rattle.text_line.proofs.value_count.Statement.{statement}
 use Rattle.text_line.proofs.value_count.Tie as tie
 
-returns : tie.Need-returns
-returns c = (all_values _ _ (search rules) c.if1.true, omega arith)
+returns : tie.Need-returns-then-line-gt-MOST_VALUES
+returns c = (all_values _ _ (search rules) c.if-line-gt-MOST_VALUES.true, omega arith)
 
-returns_2 : tie.Need-returns-2
-returns_2 c = (some_values _ _ (search rules) c.if1.false, omega arith)
+returns_2 : tie.Need-returns
+returns_2 c = (some_values _ _ (search rules) c.if-line-gt-MOST_VALUES.false, omega arith)
 
 pub value_count_spec : {M : Type 1} → statement M
 value_count_spec = tie.close (tie.spec returns returns_2)
