@@ -1,6 +1,6 @@
 -- Laws of the stretches from one slot: what one slot more adds, what a stretch that takes too few says, and what a full
 -- one does. Assumes nothing.
-use Rattle.std.specs.Prelude.{◌≡◌, ℕ, ◌+◌, ◌-◌, ◌*◌, ◌%◌, ◌<◌, ◌≤◌, max, Bool, true, false, ◌⊎◌, List, ◌==◌, nat_le, nat_lt, refl}
+use Rattle.std.specs.Prelude.{◌≡◌, ℕ, ◌+◌, ◌*◌, ◌%◌, ◌<◌, ◌≤◌, max, Bool, true, false, ◌⊎◌, List, ◌==◌, nat_le, nat_lt, refl}
 use Rattle.std.proofs.Common.{sym, ap, subst, ◌∙◌, inl, inr, ⊎_elim, arith, mod-lt, eqb-true, eq-eqb, ltb-true, lt-ltb, leb-true}
 use Rattle.std.proofs.Math.Decide.{dec_lt}
 use Rattle.sizes.specs.Sizes.{most_operations}

@@ -11,7 +11,7 @@ use sizes::{MOST_INTERVALS, MOST_OPERATIONS};
 
 // What the stretches from a slot say: no plan, or how far from it each operation is at least; and how many slots the
 // widest of them has that tells anything, or 0.
-#[derive(Drop)]
+#[derive(Clone, Copy)]
 pub struct Barrier {
     pub fail: bool,
     pub wide: usize,
@@ -142,7 +142,7 @@ fn raised(
 }
 
 // The starts that a stretch takes, and how many slots from its beginning that count covers.
-#[derive(Drop)]
+#[derive(Clone, Copy)]
 struct Cover {
     cap: usize,
     covered: usize,

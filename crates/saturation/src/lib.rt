@@ -3,6 +3,8 @@
 // An inner layer, a crate of its own for the check's time: `saturation` asks for a task whose numbers are within its
 // arrays (`TaskOk`).
 // Caller: `narrow`, with a task of which its own caller proves `TaskOk`.
+#![tactic(auto)]
+
 ghost use Rattle.std.specs.Prelude.{◌<◌, ◌≤◌};
 ghost use Rattle.sizes.specs.Sizes.{most_operations, most_types, most_intervals};
 ghost use Rattle.laws.specs.Entry.{vec};

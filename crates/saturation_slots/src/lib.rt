@@ -3,6 +3,8 @@
 // An inner layer, a crate of its own for the check's time: its functions ask for counts within the arrays and for slots
 // below the interval. Callers: `saturation` and `saturation_trims`, where `TaskOk` and `CaseOk` give the counts, and the
 // slots are gone through from 0.
+#![tactic(auto)]
+
 mod slots;
 mod touched;
 
@@ -13,7 +15,7 @@ pub use touched::{Touches, forget, more, touches};
 
 // One type of a task: so many of its operations (`most`) are of the type `kind`, on its instances, which stay busy for
 // some slots of the interval.
-#[derive(Drop)]
+#[derive(Clone, Copy)]
 pub struct Case {
     pub ops: usize,
     pub interval: usize,

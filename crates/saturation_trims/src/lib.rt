@@ -1,6 +1,8 @@
 // Where a stretch of slots is full, the starts of the other operations in it are taken off.
 // An inner layer, a crate of its own for the check's time. Caller: `saturation`, with a type of a task whose numbers are
 // within its arrays (`CaseOk`).
+#![tactic(auto)]
+
 ghost use Rattle.std.specs.Prelude.{ℕ, ◌+◌, ◌≤◌, ◌<◌};
 ghost use Rattle.sizes.specs.Sizes.{most_intervals};
 ghost use Rattle.laws.specs.Entry.{vec};

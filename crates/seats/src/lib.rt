@@ -3,6 +3,8 @@
 // An inner layer, a crate of its own for the check's time: `hopeless` asks for a task whose numbers are within its
 // arrays (`TaskOk`).
 // Caller: `narrow`, with a task of which its own caller proves `TaskOk`.
+#![tactic(auto)]
+
 ghost use Rattle.std.specs.Prelude.{◌≡◌, true, false, ℕ, ◌+◌, ◌*◌, ◌/◌, ◌-◌, ◌≤◌, ◌<◌};
 ghost use Rattle.sizes.specs.Sizes.{most_types, most_instances, most_intervals};
 ghost use Rattle.laws.specs.Entry.{vec};
@@ -18,7 +20,7 @@ use task::Task;
 
 // One type of a task: so many of its operations (`total`) are of the type, on its instances, which stay busy for some
 // slots of the interval. `pin` has the only slot of each that is down to one, else no slot of the interval.
-#[derive(Drop)]
+#[derive(Clone, Copy)]
 struct Case {
     ops: usize,
     interval: usize,
@@ -30,7 +32,7 @@ struct Case {
 
 // What is known of the instances: `used` of them have pins; the slots of the first and the last pin of each, and how
 // many operations it has at most from the first on and before the last.
-#[derive(Drop)]
+#[derive(Clone, Copy)]
 struct Seats {
     used: usize,
     first: [usize; MOST_INSTANCES],
@@ -39,7 +41,7 @@ struct Seats {
 }
 
 // What `seat` answers, and how many calls are left.
-#[derive(Drop)]
+#[derive(Clone, Copy)]
 struct Answer {
     yes: bool,
     left: usize,

@@ -1,6 +1,8 @@
 // Rule 1 of narrowing, support: a start goes only where the other operation has no start that keeps both lags with it.
 // An inner layer, a crate of its own for the check's time: `spread` asks for an operation of the task.
 // Caller: `narrow`, with the lags of a task.
+#![tactic(auto)]
+
 ghost use Rattle.std.specs.Prelude.{◌≤◌, ◌<◌};
 ghost use Rattle.sizes.specs.Sizes.{most_operations};
 ghost use Rattle.domain.specs.Domain.{Keeps};

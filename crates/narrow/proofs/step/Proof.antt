@@ -6,15 +6,15 @@ use Rattle.narrow.proofs.step.Statement.{statement}
 use Rattle.narrow.proofs.step.Tie as tie
 
 spread_requires : tie.Need-spread-requires
-spread_requires c κs = (c.before.before.before.requires.0.ops_ok, c.before.if1.true)
+spread_requires c κs = (c.before.before.before.requires.0.ops_ok, c.before.if-i-p.true)
 
-returns : tie.Need-returns
+returns : tie.Need-returns-then-i-p
 returns c = let s = c.before.before.before.before in lags_keep s.args.p s.requires.1 c.spread.ensures
 
 saturate_requires : tie.Need-saturate-requires
 saturate_requires c κs = search rules
 
-returns_2 : tie.Need-returns-2
+returns_2 : tie.Need-returns
 returns_2 c = search rules
 
 pub step_spec : {M : Type 1} → statement M

@@ -5,11 +5,11 @@ use Rattle.saturation_trims.specs.TrimLaws.{drained_self, slot_fail, slot_cut}
 use Rattle.saturation.proofs.slot_saturation.Statement.{statement}
 use Rattle.saturation.proofs.slot_saturation.Tie as tie
 
-bars_requires : tie.Need-bars-requires
+bars_requires : tie.Need-bars-b-requires
 bars_requires c κs = search rules
 
-returns : tie.Need-returns
-returns c = slot_fail c.before.bars.ensures c.if1.true
+returns : tie.Need-returns-then-b
+returns c = slot_fail c.before.bars-b.ensures c.if-b.true
 
 drained_requires : tie.Need-drained-requires
 drained_requires c κs = search rules
@@ -17,14 +17,14 @@ drained_requires c κs = search rules
 forget_requires : tie.Need-forget-requires
 forget_requires c κs = search rules
 
-returns_2 : tie.Need-returns-2
-returns_2 c = slot_cut c.before.before.before.before.before.before.before.before.before.before.bars.ensures c.before.before.before.before.before.before.before.before.before.if1.false c.before.before.before.drained.ensures
+returns_2 : tie.Need-returns-then-drained
+returns_2 c = slot_cut c.before.before.before.before.before.before.before.before.before.before.bars-b.ensures c.before.before.before.before.before.before.before.before.before.if-b.false c.before.before.before.drained.ensures
 
-returns_3 : tie.Need-returns-3
-returns_3 c = slot_cut c.before.before.before.before.before.before.before.before.bars.ensures c.before.before.before.before.before.before.before.if1.false c.before.drained.ensures
+returns_3 : tie.Need-returns-else-drained
+returns_3 c = slot_cut c.before.before.before.before.before.before.before.before.bars-b.ensures c.before.before.before.before.before.before.before.if-b.false c.before.drained.ensures
 
-returns_4 : tie.Need-returns-4
-returns_4 c = slot_cut c.before.before.before.bars.ensures c.before.before.if1.false (drained_self _ _)
+returns_4 : tie.Need-returns-else-b-gt0
+returns_4 c = slot_cut c.before.before.before.bars-b.ensures c.before.before.if-b.false (drained_self _ _)
 
 pub slot_saturation_spec : {M : Type 1} → statement M
 slot_saturation_spec =

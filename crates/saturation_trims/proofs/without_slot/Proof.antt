@@ -11,32 +11,32 @@ use Rattle.saturation_trims.specs.TrimLaws.{gone_more}
 use Rattle.saturation_trims.proofs.without_slot.Statement.{statement}
 use Rattle.saturation_trims.proofs.without_slot.Tie as tie
 
-abbrev invariant_loop : tie.invariant_loop
+abbrev invariant_loop : tie.invariant-loop-t
 invariant_loop row₀ slot interval t₀ row t = (t % interval ≡ slot) × WithoutSlot slot interval row₀ row
 
-abbrev decreases_loop : tie.decreases_loop
+abbrev decreases_loop : tie.decreases-loop-t
 decreases_loop row₀ slot interval t₀ row t = most_starts - t
 
-loop_holds : tie.Need-loop-init invariant_loop decreases_loop
+loop_holds : tie.Need-loop-t-init invariant_loop decreases_loop
 loop_holds c = (mod-eq_of_lt c.requires.0, record { was = part_self _; stays = λ t h y f. y })
 
-element_write_row : tie.Need-element-write-row invariant_loop decreases_loop
+element_write_row : tie.Need-bounds-row-t invariant_loop decreases_loop
 element_write_row c = search rules
 
-add_t : tie.Need-overflow-add-t invariant_loop decreases_loop
+add_t : tie.Need-overflow_add-t invariant_loop decreases_loop
 add_t c = search rules
 
-loop_less : tie.Need-loop-smaller invariant_loop decreases_loop
+loop_less : tie.Need-loop-t-smaller invariant_loop decreases_loop
 loop_less c = search rules
 
-loop_again : tie.Need-loop-preserved invariant_loop decreases_loop
+loop_again : tie.Need-loop-t-preserved invariant_loop decreases_loop
 loop_again c =
     let s = c.before.before in
-    let l = c.before.loop in
+    let l = c.before.loop-t in
     (add-mod_right l.t s.args.interval ∙ l.invariant.0, gone_more _ _ l.t _ l.row l.invariant.0 l.invariant.1)
 
 returns : tie.Need-returns invariant_loop decreases_loop
-returns c = c.before.loop.invariant.1
+returns c = c.before.loop-t.invariant.1
 
 pub without_slot_spec : {M : Type 1} → statement M
 without_slot_spec =

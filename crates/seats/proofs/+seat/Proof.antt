@@ -50,166 +50,166 @@ callees t = (
   with-instance-reads.Learnt,
 )
 
-abbrev seat_inv_loop : seat-lts.invariant_loop
+abbrev seat_inv_loop : seat-lts.invariant-loop-v
 seat_inv_loop from fuel case seats left₀ x s after v₀ left v = (v ≤ seats.used) × Left case from seats x v
 
-abbrev seat_μ_loop : seat-lts.decreases_loop
+abbrev seat_μ_loop : seat-lts.decreases-loop-v
 seat_μ_loop from fuel case seats left₀ x s after v₀ left v = seats.used - v
 
 -- the operation that gets an instance
-node : (t : ℕ) (e : seat-lts.Else3 (callees t) (seat_at t) seat'.Post seat_inv_loop seat_μ_loop) → e.before.next-pin.result < e.before.before.before.before.before.args.t1.ops
-node t e = omega (arith, e.if3.false)
+node : (t : ℕ) (e : seat-lts.Else-case-x (callees t) (seat_at t) seat'.Post seat_inv_loop seat_μ_loop) → e.before.next_pin-x.result < e.before.before.before.before.before.args.case.ops
+node t e = omega (arith, e.if-case-x.false)
 
 -- its slot, and its key
-slot : (t : ℕ) (e : seat-lts.Else3 (callees t) (seat_at t) seat'.Post seat_inv_loop seat_μ_loop) → vec e.before.before.before.before.before.args.t1.pin e.before.next-pin.result < e.before.before.before.before.before.args.t1.interval
-slot t e = (e.before.next-pin.ensures.next (node t e)).0
+slot : (t : ℕ) (e : seat-lts.Else-case-x (callees t) (seat_at t) seat'.Post seat_inv_loop seat_μ_loop) → vec e.before.before.before.before.before.args.case.pin e.before.next_pin-x.result < e.before.before.before.before.before.args.case.interval
+slot t e = (e.before.next_pin-x.ensures.next (node t e)).0
 
-key : (t : ℕ) (e : seat-lts.Else3 (callees t) (seat_at t) seat'.Post seat_inv_loop seat_μ_loop) → e.before.before.before.before.before.args.from ≤ key_of e.before.before.before.before.before.args.t1 e.before.next-pin.result
-key t e = (e.before.next-pin.ensures.next (node t e)).1
+key : (t : ℕ) (e : seat-lts.Else-case-x (callees t) (seat_at t) seat'.Post seat_inv_loop seat_μ_loop) → e.before.before.before.before.before.args.from ≤ key_of e.before.before.before.before.before.args.case e.before.next_pin-x.result
+key t e = (e.before.next_pin-x.ensures.next (node t e)).1
 
-long_first : (t : ℕ) (c : seat-lts.Start (callees t) (seat_at t) seat'.Post seat_inv_loop seat_μ_loop) → length c.args.t3.first ≡ most_instances
+long_first : (t : ℕ) (c : seat-lts.Start (callees t) (seat_at t) seat'.Post seat_inv_loop seat_μ_loop) → length c.args.seats.first ≡ most_instances
 long_first t c = search rules
 
-long_last : (t : ℕ) (c : seat-lts.Start (callees t) (seat_at t) seat'.Post seat_inv_loop seat_μ_loop) → length c.args.t3.last ≡ most_instances
+long_last : (t : ℕ) (c : seat-lts.Start (callees t) (seat_at t) seat'.Post seat_inv_loop seat_μ_loop) → length c.args.seats.last ≡ most_instances
 long_last t c = search rules
 
-long_taken : (t : ℕ) (c : seat-lts.Start (callees t) (seat_at t) seat'.Post seat_inv_loop seat_μ_loop) → length c.args.t3.taken ≡ most_instances
+long_taken : (t : ℕ) (c : seat-lts.Start (callees t) (seat_at t) seat'.Post seat_inv_loop seat_μ_loop) → length c.args.seats.taken ≡ most_instances
 long_taken t c = search rules
 
-seat_returns : (t : ℕ) → seat-lts.Need-returns (callees t) (seat_at t) seat'.Post seat_inv_loop seat_μ_loop
+seat_returns : (t : ℕ) → seat-lts.Need-returns-then-fuel-eq0 (callees t) (seat_at t) seat'.Post seat_inv_loop seat_μ_loop
 seat_returns t c = record { no = λ e. true_false e }
 
-seat_sub_left : (t : ℕ) → seat-lts.Need-overflow-sub-left (callees t) (seat_at t) seat'.Post seat_inv_loop seat_μ_loop
+seat_sub_left : (t : ℕ) → seat-lts.Need-overflow_sub-left (callees t) (seat_at t) seat'.Post seat_inv_loop seat_μ_loop
 seat_sub_left t c = search rules
 
 seat_room_requires : (t : ℕ) → seat-lts.Need-room-requires (callees t) (seat_at t) seat'.Post seat_inv_loop seat_μ_loop
 seat_room_requires t c κs = search rules
 
-seat_returns_2 : (t : ℕ) → seat-lts.Need-returns-2 (callees t) (seat_at t) seat'.Post seat_inv_loop seat_μ_loop
-seat_returns_2 t c = let s = c.before.before.before in seating_room s.args.t1 s.args.from s.args.t3 c.before.room.ensures c.if2.true
+seat_returns_2 : (t : ℕ) → seat-lts.Need-returns-then-room-case (callees t) (seat_at t) seat'.Post seat_inv_loop seat_μ_loop
+seat_returns_2 t c = let s = c.before.before.before in seating_room s.args.case s.args.from s.args.seats c.before.room.ensures c.if-room-case.true
 
-seat_next_pin_requires : (t : ℕ) → seat-lts.Need-next-pin-requires (callees t) (seat_at t) seat'.Post seat_inv_loop seat_μ_loop
+seat_next_pin_requires : (t : ℕ) → seat-lts.Need-next_pin-x-requires (callees t) (seat_at t) seat'.Post seat_inv_loop seat_μ_loop
 seat_next_pin_requires t c κs = search rules
 
-seat_returns_3 : (t : ℕ) → seat-lts.Need-returns-3 (callees t) (seat_at t) seat'.Post seat_inv_loop seat_μ_loop
+seat_returns_3 : (t : ℕ) → seat-lts.Need-returns-then-case-x (callees t) (seat_at t) seat'.Post seat_inv_loop seat_μ_loop
 seat_returns_3 t c = record { no = λ e. true_false e }
 
-seat_mul_s : (t : ℕ) → seat-lts.Need-overflow-mul-s (callees t) (seat_at t) seat'.Post seat_inv_loop seat_μ_loop
+seat_mul_s : (t : ℕ) → seat-lts.Need-offset_bounds-case-x (callees t) (seat_at t) seat'.Post seat_inv_loop seat_μ_loop
 seat_mul_s t c = search rules
 
-seat_element_copy_out_s : (t : ℕ) → seat-lts.Need-element-copy-out-s (callees t) (seat_at t) seat'.Post seat_inv_loop seat_μ_loop
+seat_element_copy_out_s : (t : ℕ) → seat-lts.Need-bounds-case-x (callees t) (seat_at t) seat'.Post seat_inv_loop seat_μ_loop
 seat_element_copy_out_s t c = search rules
 
-seat_mul_after : (t : ℕ) → seat-lts.Need-overflow-mul-after (callees t) (seat_at t) seat'.Post seat_inv_loop seat_μ_loop
+seat_mul_after : (t : ℕ) → seat-lts.Need-overflow_mul-after (callees t) (seat_at t) seat'.Post seat_inv_loop seat_μ_loop
 seat_mul_after t c = search (rules, slot t c.before, node t c.before, c.before.before.before.before.before.before.requires.1.0.ops_ok, c.before.before.before.before.before.before.requires.1.0.interval_max)
 
-seat_add_after : (t : ℕ) → seat-lts.Need-overflow-add-after (callees t) (seat_at t) seat'.Post seat_inv_loop seat_μ_loop
+seat_add_after : (t : ℕ) → seat-lts.Need-overflow_add-after (callees t) (seat_at t) seat'.Post seat_inv_loop seat_μ_loop
 seat_add_after t c = search (rules, slot t c.before, node t c.before, c.before.before.before.before.before.before.requires.1.0.ops_ok, c.before.before.before.before.before.before.requires.1.0.interval_max)
 
-seat_add_after_2 : (t : ℕ) → seat-lts.Need-overflow-add-after-2 (callees t) (seat_at t) seat'.Post seat_inv_loop seat_μ_loop
+seat_add_after_2 : (t : ℕ) → seat-lts.Need-overflow_add-after-2 (callees t) (seat_at t) seat'.Post seat_inv_loop seat_μ_loop
 seat_add_after_2 t c = search (rules, slot t c.before, node t c.before, c.before.before.before.before.before.before.requires.1.0.ops_ok, c.before.before.before.before.before.before.requires.1.0.interval_max)
 
-seat_loop_holds : (t : ℕ) → seat-lts.Need-loop-init (callees t) (seat_at t) seat'.Post seat_inv_loop seat_μ_loop
-seat_loop_holds t c = let s = c.before.before.before.before.before.before in (omega arith, left_none s.args.t1 s.args.from s.args.t3 c.before.before.next-pin.result)
+seat_loop_holds : (t : ℕ) → seat-lts.Need-loop-v-init (callees t) (seat_at t) seat'.Post seat_inv_loop seat_μ_loop
+seat_loop_holds t c = let s = c.before.before.before.before.before.before in (omega arith, left_none s.args.case s.args.from s.args.seats c.before.before.next_pin-x.result)
 
-seat_mul_free : (t : ℕ) → seat-lts.Need-overflow-mul-free (callees t) (seat_at t) seat'.Post seat_inv_loop seat_μ_loop
+seat_mul_free : (t : ℕ) → seat-lts.Need-offset_bounds-seats-v (callees t) (seat_at t) seat'.Post seat_inv_loop seat_μ_loop
 seat_mul_free t c = search rules
 
-seat_element_copy_out_free : (t : ℕ) → seat-lts.Need-element-copy-out-free (callees t) (seat_at t) seat'.Post seat_inv_loop seat_μ_loop
+seat_element_copy_out_free : (t : ℕ) → seat-lts.Need-bounds-seats-v (callees t) (seat_at t) seat'.Post seat_inv_loop seat_μ_loop
 seat_element_copy_out_free t c = search rules
 
-seat_mul_free_2 : (t : ℕ) → seat-lts.Need-overflow-mul-free-2 (callees t) (seat_at t) seat'.Post seat_inv_loop seat_μ_loop
+seat_mul_free_2 : (t : ℕ) → seat-lts.Need-offset_bounds-seats-v-in-loop-v (callees t) (seat_at t) seat'.Post seat_inv_loop seat_μ_loop
 seat_mul_free_2 t c = search rules
 
-seat_element_copy_out_free_2 : (t : ℕ) → seat-lts.Need-element-copy-out-free-2 (callees t) (seat_at t) seat'.Post seat_inv_loop seat_μ_loop
+seat_element_copy_out_free_2 : (t : ℕ) → seat-lts.Need-bounds-seats-v-in-loop-v (callees t) (seat_at t) seat'.Post seat_inv_loop seat_μ_loop
 seat_element_copy_out_free_2 t c = search rules
 
 seat_free_requires : (t : ℕ) → seat-lts.Need-free-requires (callees t) (seat_at t) seat'.Post seat_inv_loop seat_μ_loop
 seat_free_requires t c κs =
     let s = c.before.before.before.before.before.before.before.before.before.before in
-    let v = c.before.before.before.loop.v in
-    let h : v < most_instances = omega (arith, c.before.before.loop-test.true, s.requires.1.1.used_ok, s.requires.1.0.instances_ok) in
+    let v = c.before.before.before.loop-v.v in
+    let h : v < most_instances = omega (arith, c.before.before.loop-v-test.true, s.requires.1.1.used_ok, s.requires.1.0.instances_ok) in
     (s.requires.1.0.interval_max, s.requires.1.0.fits, s.requires.1.1.first_ok v h, s.requires.1.1.last_ok v h, omega (arith, slot t c.before.before.before.before.before))
 
-seat_with_pin_requires : (t : ℕ) → seat-lts.Need-with-pin-requires (callees t) (seat_at t) seat'.Post seat_inv_loop seat_μ_loop
+seat_with_pin_requires : (t : ℕ) → seat-lts.Need-with_pin-more-requires (callees t) (seat_at t) seat'.Post seat_inv_loop seat_μ_loop
 seat_with_pin_requires t c κs =
     let s = c.before.before.before.before.before.before.before.before.before.before.before.before in
-    let v = c.before.before.before.before.before.loop.v in
-    let h : v < most_instances = omega (arith, c.before.before.before.before.loop-test.true, s.requires.1.1.used_ok, s.requires.1.0.instances_ok) in
-    (h, s.requires.1.0.busy_some, omega (arith, slot t c.before.before.before.before.before.before.before, s.requires.1.0.interval_max), c.before.free.ensures.yes c.if4.true, omega (arith, s.requires.1.1.taken_ok v h, s.requires.1.1.last_ok v h, s.requires.1.0.interval_max))
+    let v = c.before.before.before.before.before.loop-v.v in
+    let h : v < most_instances = omega (arith, c.before.before.before.before.loop-v-test.true, s.requires.1.1.used_ok, s.requires.1.0.instances_ok) in
+    (h, s.requires.1.0.busy_some, omega (arith, slot t c.before.before.before.before.before.before.before, s.requires.1.0.interval_max), c.before.free.ensures.yes c.if-free.true, omega (arith, s.requires.1.1.taken_ok v h, s.requires.1.1.last_ok v h, s.requires.1.0.interval_max))
 
-seat_seat_requires : (t : ℕ) → seat-lts.Need-seat-requires (callees t) (seat_at t) seat'.Post seat_inv_loop seat_μ_loop
+seat_seat_requires : (t : ℕ) → seat-lts.Need-seat-h-requires (callees t) (seat_at t) seat'.Post seat_inv_loop seat_μ_loop
 seat_seat_requires t c κs =
     let s = c.before.before.before.before.before.before.before.before.before.before.before.before.before in
     let e = c.before.before.before.before.before.before.before.before in
-    let v = c.before.before.before.before.before.before.loop.v in
-    let h : v < most_instances = omega (arith, c.before.before.before.before.before.loop-test.true, s.requires.1.1.used_ok, s.requires.1.0.instances_ok) in (
+    let v = c.before.before.before.before.before.before.loop-v.v in
+    let h : v < most_instances = omega (arith, c.before.before.before.before.before.loop-v-test.true, s.requires.1.1.used_ok, s.requires.1.0.instances_ok) in (
       omega (arith, s.requires.0, key t e, slot t e, node t e, s.requires.1.0.ops_ok, s.requires.1.0.interval_max),
       (
         s.requires.1.0,
-        subst (SeatsOk s.args.t1) (sym c.with-pin.ensures)
-            (seats_pin s.args.t1 s.args.t3 s.requires.1.1 (vec s.args.t1.pin e.before.next-pin.result) (omega (arith, slot t e)) v s.args.t1.busy h (omega (arith, long_last t s)) (omega (arith, long_taken t s)) (c.before.before.free.ensures.yes c.before.if4.true)),
+        subst (SeatsOk s.args.case) (sym c.with_pin-more.ensures)
+            (seats_pin s.args.case s.args.seats s.requires.1.1 (vec s.args.case.pin e.before.next_pin-x.result) (omega (arith, slot t e)) v s.args.case.busy h (omega (arith, long_last t s)) (omega (arith, long_taken t s)) (c.before.before.free.ensures.yes c.before.if-free.true)),
       ),
     )
 
-seat_returns_4 : (t : ℕ) → seat-lts.Need-returns-4 (callees t) (seat_at t) seat'.Post seat_inv_loop seat_μ_loop
-seat_returns_4 t c = record { no = λ e. true_false (sym c.if5.true ∙ e) }
+seat_returns_4 : (t : ℕ) → seat-lts.Need-returns-then-h (callees t) (seat_at t) seat'.Post seat_inv_loop seat_μ_loop
+seat_returns_4 t c = record { no = λ e. true_false (sym c.if-h.true ∙ e) }
 
-seat_add_v : (t : ℕ) → seat-lts.Need-overflow-add-v (callees t) (seat_at t) seat'.Post seat_inv_loop seat_μ_loop
+seat_add_v : (t : ℕ) → seat-lts.Need-overflow_add-v (callees t) (seat_at t) seat'.Post seat_inv_loop seat_μ_loop
 seat_add_v t c = search rules
 
-seat_loop_less : (t : ℕ) → seat-lts.Need-loop-smaller (callees t) (seat_at t) seat'.Post seat_inv_loop seat_μ_loop
+seat_loop_less : (t : ℕ) → seat-lts.Need-loop-v-smaller (callees t) (seat_at t) seat'.Post seat_inv_loop seat_μ_loop
 seat_loop_less t c = search rules
 
-seat_loop_again : (t : ℕ) → seat-lts.Need-loop-preserved (callees t) (seat_at t) seat'.Post seat_inv_loop seat_μ_loop
+seat_loop_again : (t : ℕ) → seat-lts.Need-loop-v-preserved (callees t) (seat_at t) seat'.Post seat_inv_loop seat_μ_loop
 seat_loop_again t c =
     let s = c.before.before.before.before.before.before.before.before.before.before.before.before in
     let e = c.before.before.before.before.before.before.before in
-    let l = c.before.before.before.before.before.loop in
-    let q = c.before.before.before.before.loop-test.true in
+    let l = c.before.before.before.before.before.loop-v in
+    let q = c.before.before.before.before.loop-v-test.true in
     let h : l.v < most_instances = omega (arith, q, s.requires.1.1.used_ok, s.requires.1.0.instances_ok) in (
       omega (arith, q),
       ⊎_elim
-          (λ w. left_tried s.args.t1 s.args.from s.args.t3 s.requires.1.0 e.before.next-pin.result (node t e) e.before.next-pin.ensures q (omega (arith, long_last t s)) (omega (arith, long_taken t s)) (subst (λ (z : Seats). Seating s.args.t1 (key_of s.args.t1 e.before.next-pin.result + 1) z w.2.result.yes) w.1.ensures w.2.ensures) w.3.left l.invariant.1)
-          (λ w. left_clash s.args.t1 s.args.from s.args.t3 s.requires.1.0 e.before.next-pin.result (node t e) e.before.next-pin.ensures q (c.before.free.ensures.no w.0.left) l.invariant.1) c.if4.branch,
+          (λ w. left_tried s.args.case s.args.from s.args.seats s.requires.1.0 e.before.next_pin-x.result (node t e) e.before.next_pin-x.ensures q (omega (arith, long_last t s)) (omega (arith, long_taken t s)) (subst (λ (z : Seats). Seating s.args.case (key_of s.args.case e.before.next_pin-x.result + 1) z w.seat-h.result.yes) w.with_pin-more.ensures w.seat-h.ensures) w.if-h.false l.invariant.1)
+          (λ w. left_clash s.args.case s.args.from s.args.seats s.requires.1.0 e.before.next_pin-x.result (node t e) e.before.next_pin-x.ensures q (c.before.free.ensures.no w.if-free.false) l.invariant.1) c.if-free.branch-raw,
     )
 
-seat_with_instance_requires : (t : ℕ) → seat-lts.Need-with-instance-requires (callees t) (seat_at t) seat'.Post seat_inv_loop seat_μ_loop
-seat_with_instance_requires t c κs = let s = c.before.before.before.before.before.before.before.before.before in let h : s.args.t3.used < most_instances = omega (arith, c.if6.true, s.requires.1.0.instances_ok) in h
+seat_with_instance_requires : (t : ℕ) → seat-lts.Need-with_instance-more-requires (callees t) (seat_at t) seat'.Post seat_inv_loop seat_μ_loop
+seat_with_instance_requires t c κs = let s = c.before.before.before.before.before.before.before.before.before in let h : s.args.seats.used < most_instances = omega (arith, c.if-seats-case.true, s.requires.1.0.instances_ok) in h
 
-seat_seat_requires_2 : (t : ℕ) → seat-lts.Need-seat-requires-2 (callees t) (seat_at t) seat'.Post seat_inv_loop seat_μ_loop
+seat_seat_requires_2 : (t : ℕ) → seat-lts.Need-seat-requires (callees t) (seat_at t) seat'.Post seat_inv_loop seat_μ_loop
 seat_seat_requires_2 t c κs =
     let s = c.before.before.before.before.before.before.before.before.before.before in
     let e = c.before.before.before.before.before in
-    let h : s.args.t3.used < most_instances = omega (arith, c.before.if6.true, s.requires.1.0.instances_ok) in (
+    let h : s.args.seats.used < most_instances = omega (arith, c.before.if-seats-case.true, s.requires.1.0.instances_ok) in (
       omega (arith, s.requires.0, key t e, slot t e, node t e, s.requires.1.0.ops_ok, s.requires.1.0.interval_max),
       (
         s.requires.1.0,
-        subst (SeatsOk s.args.t1) (sym c.with-instance.ensures)
-            (seats_instance s.args.t1 s.args.t3 s.requires.1.1 (vec s.args.t1.pin e.before.next-pin.result) (omega (arith, slot t e)) c.before.if6.true (omega (arith, long_first t s)) (omega (arith, long_last t s)) (omega (arith, long_taken t s))),
+        subst (SeatsOk s.args.case) (sym c.with_instance-more.ensures)
+            (seats_instance s.args.case s.args.seats s.requires.1.1 (vec s.args.case.pin e.before.next_pin-x.result) (omega (arith, slot t e)) c.before.if-seats-case.true (omega (arith, long_first t s)) (omega (arith, long_last t s)) (omega (arith, long_taken t s))),
       ),
     )
 
-seat_returns_5 : (t : ℕ) → seat-lts.Need-returns-5 (callees t) (seat_at t) seat'.Post seat_inv_loop seat_μ_loop
+seat_returns_5 : (t : ℕ) → seat-lts.Need-returns-then-seats-case (callees t) (seat_at t) seat'.Post seat_inv_loop seat_μ_loop
 seat_returns_5 t c =
     let s = c.before.before.before.before.before.before.before.before.before.before.before in
     let e = c.before.before.before.before.before.before in
-    let l = c.before.before.before.before.loop in
-    let h : s.args.t3.used < most_instances = omega (arith, c.before.before.if6.true, s.requires.1.0.instances_ok) in
-    seating_new s.args.t1 s.args.from s.args.t3 s.requires.1.0 e.before.next-pin.result (node t e) e.before.next-pin.ensures c.before.before.if6.true (omega (arith, long_first t s)) (omega (arith, long_last t s)) (omega (arith, long_taken t s))
-    (subst (λ (z : Seats). Seating s.args.t1 (key_of s.args.t1 e.before.next-pin.result + 1) z c.seat2.result.yes) c.before.with-instance.ensures c.seat2.ensures)
-    (subst (Left s.args.t1 s.args.from s.args.t3 e.before.next-pin.result) (omega (arith, l.invariant.0, c.before.before.before.loop-test.false)) l.invariant.1)
+    let l = c.before.before.before.before.loop-v in
+    let h : s.args.seats.used < most_instances = omega (arith, c.before.before.if-seats-case.true, s.requires.1.0.instances_ok) in
+    seating_new s.args.case s.args.from s.args.seats s.requires.1.0 e.before.next_pin-x.result (node t e) e.before.next_pin-x.ensures c.before.before.if-seats-case.true (omega (arith, long_first t s)) (omega (arith, long_last t s)) (omega (arith, long_taken t s))
+    (subst (λ (z : Seats). Seating s.args.case (key_of s.args.case e.before.next_pin-x.result + 1) z c.seat.result.yes) c.before.with_instance-more.ensures c.seat.ensures)
+    (subst (Left s.args.case s.args.from s.args.seats e.before.next_pin-x.result) (omega (arith, l.invariant.0, c.before.before.before.loop-v-test.false)) l.invariant.1)
 
-seat_returns_6 : (t : ℕ) → seat-lts.Need-returns-6 (callees t) (seat_at t) seat'.Post seat_inv_loop seat_μ_loop
+seat_returns_6 : (t : ℕ) → seat-lts.Need-returns (callees t) (seat_at t) seat'.Post seat_inv_loop seat_μ_loop
 seat_returns_6 t c =
     let s = c.before.before.before.before.before.before.before.before.before in
     let e = c.before.before.before.before in
-    let l = c.before.before.loop in
-    seating_full s.args.t1 s.args.from s.args.t3 (node t e) e.before.next-pin.ensures (omega (arith, c.if6.false))
-    (subst (Left s.args.t1 s.args.from s.args.t3 e.before.next-pin.result) (omega (arith, l.invariant.0, c.before.loop-test.false)) l.invariant.1)
+    let l = c.before.before.loop-v in
+    seating_full s.args.case s.args.from s.args.seats (node t e) e.before.next_pin-x.ensures (omega (arith, c.if-seats-case.false))
+    (subst (Left s.args.case s.args.from s.args.seats e.before.next_pin-x.result) (omega (arith, l.invariant.0, c.before.loop-v-test.false)) l.invariant.1)
 
-pub +seat-spec : {M : Type 1} → statement M
-+seat-spec = close μ_seat λ t. seat-lts.spec (callees t)
+pub +seat_spec : {M : Type 1} → statement M
++seat_spec = close μ_seat λ t. seat-lts.spec (callees t)
     (seat_at t)
     seat'.Post
     seat_inv_loop

@@ -9,26 +9,26 @@ use Rattle.laws.specs.Z.{true_false}
 use Rattle.seats.proofs.one_room.Statement.{statement}
 use Rattle.seats.proofs.one_room.Tie as tie
 
-add_result : tie.Need-overflow-add-result
+add_result : tie.Need-overflow_add-result
 add_result c = search rules
 
-sub_result : tie.Need-overflow-sub-result
+sub_result : tie.Need-overflow_sub-result
 sub_result c = search rules
 
-div_result : tie.Need-nonzero-div-result
+div_result : tie.Need-nonzero_div-result
 div_result c = search rules
 
-add_result_2 : tie.Need-overflow-add-result-2
+add_result_2 : tie.Need-overflow_add-result-then-some
 add_result_2 c = let a = c.before.args in omega (arith, c.before.requires.1, c.before.requires.2, c.before.requires.3, c.before.requires.4, div-le_self (a.interval + a.first - a.last) a.busy)
 
-returns : tie.Need-returns
-returns c = let a = c.before.args in (record { yes = λ _. refl; no = λ e. true_false (sym c.if1.true ∙ e) }, omega (arith, c.before.requires.1, c.before.requires.2, c.before.requires.3, c.before.requires.4, div-le_self (a.interval + a.first - a.last) a.busy))
+returns : tie.Need-returns-then-some
+returns c = let a = c.before.args in (record { yes = λ _. refl; no = λ e. true_false (sym c.if-some.true ∙ e) }, omega (arith, c.before.requires.1, c.before.requires.2, c.before.requires.3, c.before.requires.4, div-le_self (a.interval + a.first - a.last) a.busy))
 
-div_result_2 : tie.Need-nonzero-div-result-2
+div_result_2 : tie.Need-nonzero_div-result-2
 div_result_2 c = search rules
 
-returns_2 : tie.Need-returns-2
-returns_2 c = let a = c.before.args in (record { yes = λ e. true_false (sym e ∙ c.if1.false); no = λ _. refl }, omega (arith, c.before.requires.1, div-le_self a.interval a.busy))
+returns_2 : tie.Need-returns
+returns_2 c = let a = c.before.args in (record { yes = λ e. true_false (sym e ∙ c.if-some.false); no = λ _. refl }, omega (arith, c.before.requires.1, div-le_self a.interval a.busy))
 
 pub one_room_spec : {M : Type 1} → statement M
 one_room_spec =

@@ -7,25 +7,25 @@ use Rattle.seats.specs.SeatingLaws.{seats_none, hopeless_show}
 use Rattle.seats.proofs.type_hopeless.Statement.{statement}
 use Rattle.seats.proofs.type_hopeless.Tie as tie
 
-count_of_requires : tie.Need-count-of-requires
+count_of_requires : tie.Need-count_of-total-requires
 count_of_requires c κs = search rules
 
-pins_requires : tie.Need-pins-requires
+pins_requires : tie.Need-pins-pin-requires
 pins_requires c κs = search rules
 
-mul_instances : tie.Need-overflow-mul-instances
+mul_instances : tie.Need-offset_bounds-p-kind
 mul_instances c = search rules
 
-element_copy_out_instances : tie.Need-element-copy-out-instances
+element_copy_out_instances : tie.Need-bounds-p-kind
 element_copy_out_instances c = search rules
 
-mul_busy : tie.Need-overflow-mul-busy
+mul_busy : tie.Need-offset_bounds-p-kind-2
 mul_busy c = search rules
 
-element_copy_out_busy : tie.Need-element-copy-out-busy
+element_copy_out_busy : tie.Need-bounds-p-kind-2
 element_copy_out_busy c = search rules
 
-seat_requires : tie.Need-seat-requires
+seat_requires : tie.Need-seat-b-requires
 seat_requires c κs =
     let s = c.before.before.before.before.before.before in
     let ok = s.requires.0 in (
@@ -36,18 +36,18 @@ seat_requires c κs =
         instances_ok = ok.instances_busy s.args.kind s.requires.1 s.requires.3;
         busy_some = ok.busy_some s.args.kind s.requires.1;
         fits = s.requires.4;
-        pins_ok = c.before.before.pins.ensures.small;
+        pins_ok = c.before.before.pins-pin.ensures.small;
       },
       seats_none _,
     )
 
-returns : tie.Need-returns
+returns : tie.Need-returns-then-b
 returns c = record { yes = λ e. true_false (sym e) }
 
-returns_2 : tie.Need-returns-2
+returns_2 : tie.Need-returns
 returns_2 c =
     let s = c.before.before.before.before.before.before.before.before in
-    hopeless_show s.args.t1 s.args.kind s.requires.1 s.requires.2 c.before.before.before.before.pins.ensures c.before.before.before.before.before.count_of.ensures.0 c.before.seat.ensures c.if1.false
+    hopeless_show s.args.p s.args.kind s.requires.1 s.requires.2 c.before.before.before.before.pins-pin.ensures c.before.before.before.before.before.count_of-total.ensures.0 c.before.seat-b.ensures c.if-b.false
 
 pub type_hopeless_spec : {M : Type 1} → statement M
 type_hopeless_spec =

@@ -7,37 +7,37 @@ use Rattle.laws.specs.Entry.{vec}
 use Rattle.seats.proofs.with_pin.Statement.{statement}
 use Rattle.seats.proofs.with_pin.Tie as tie
 
-mul_last : tie.Need-overflow-mul-last
+mul_last : tie.Need-offset_bounds-last-v
 mul_last c = search rules
 
-array_write_last : tie.Need-array-write-last
+array_write_last : tie.Need-bounds-last-v
 array_write_last c = search rules
 
-mul_taken : tie.Need-overflow-mul-taken
+mul_taken : tie.Need-offset_bounds-seats-v
 mul_taken c = search rules
 
-element_copy_out_taken : tie.Need-element-copy-out-taken
+element_copy_out_taken : tie.Need-bounds-seats-v
 element_copy_out_taken c = search rules
 
-mul_taken_2 : tie.Need-overflow-mul-taken-2
+mul_taken_2 : tie.Need-offset_bounds-seats-v-2
 mul_taken_2 c = search rules
 
-element_copy_out_taken_2 : tie.Need-element-copy-out-taken-2
+element_copy_out_taken_2 : tie.Need-bounds-seats-v-2
 element_copy_out_taken_2 c = search rules
 
-sub_taken : tie.Need-overflow-sub-taken
+sub_taken : tie.Need-overflow_sub-taken
 sub_taken c = search rules
 
-div_taken : tie.Need-nonzero-div-taken
+div_taken : tie.Need-nonzero_div-taken
 div_taken c = search rules
 
-add_taken : tie.Need-overflow-add-taken
-add_taken c = let a = c.before.before.before.before.before.args in search (rules, div-le_self (a.s - vec a.t1.last a.v) a.busy)
+add_taken : tie.Need-overflow_add-taken
+add_taken c = let a = c.before.before.before.before.before.args in search (rules, div-le_self (a.s - vec a.seats.last a.v) a.busy)
 
-mul_taken_3 : tie.Need-overflow-mul-taken-3
+mul_taken_3 : tie.Need-offset_bounds-taken-v
 mul_taken_3 c = search rules
 
-array_write_taken : tie.Need-array-write-taken
+array_write_taken : tie.Need-bounds-taken-v
 array_write_taken c = search rules
 
 returns : tie.Need-returns

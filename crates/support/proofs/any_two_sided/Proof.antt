@@ -5,64 +5,64 @@ use borrow.Author.Rules.{rules}
 use Rattle.support.proofs.any_two_sided.Statement.{statement}
 use Rattle.support.proofs.any_two_sided.Tie as tie
 
-abbrev invariant_loop : tie.invariant_loop
+abbrev invariant_loop : tie.invariant-loop-j
 invariant_loop lag near ops i j₀ j = j ≤ ops
 
-abbrev decreases_loop : tie.decreases_loop
+abbrev decreases_loop : tie.decreases-loop-j
 decreases_loop lag near ops i j₀ j = ops - j
 
-loop_holds : tie.Need-loop-init invariant_loop decreases_loop
+loop_holds : tie.Need-loop-j-init invariant_loop decreases_loop
 loop_holds c = search rules
 
-mul_there : tie.Need-overflow-mul-there invariant_loop decreases_loop
+mul_there : tie.Need-overflow_mul-there invariant_loop decreases_loop
 mul_there c = search rules
 
-add_there : tie.Need-overflow-add-there invariant_loop decreases_loop
+add_there : tie.Need-overflow_add-there invariant_loop decreases_loop
 add_there c = search rules
 
-mul_back : tie.Need-overflow-mul-back invariant_loop decreases_loop
+mul_back : tie.Need-overflow_mul-back invariant_loop decreases_loop
 mul_back c = search rules
 
-add_back : tie.Need-overflow-add-back invariant_loop decreases_loop
+add_back : tie.Need-overflow_add-back invariant_loop decreases_loop
 add_back c = search rules
 
-element_copy_out_if1 : tie.Need-element-copy-out-if1 invariant_loop decreases_loop
+element_copy_out_if1 : tie.Need-bounds-near-there invariant_loop decreases_loop
 element_copy_out_if1 c = search rules
 
-mul_shifted : tie.Need-overflow-mul-shifted invariant_loop decreases_loop
+mul_shifted : tie.Need-offset_bounds-lag-there invariant_loop decreases_loop
 mul_shifted c = search rules
 
-element_copy_out_shifted : tie.Need-element-copy-out-shifted invariant_loop decreases_loop
+element_copy_out_shifted : tie.Need-bounds-lag-there invariant_loop decreases_loop
 element_copy_out_shifted c = search rules
 
 shifted_requires : tie.Need-shifted-requires invariant_loop decreases_loop
 shifted_requires c κs = search rules
 
-mul_shifted_2 : tie.Need-overflow-mul-shifted-2 invariant_loop decreases_loop
+mul_shifted_2 : tie.Need-offset_bounds-lag-back invariant_loop decreases_loop
 mul_shifted_2 c = search rules
 
-element_copy_out_shifted_2 : tie.Need-element-copy-out-shifted-2 invariant_loop decreases_loop
+element_copy_out_shifted_2 : tie.Need-bounds-lag-back invariant_loop decreases_loop
 element_copy_out_shifted_2 c = search rules
 
-shifted_requires_2 : tie.Need-shifted-requires-2 invariant_loop decreases_loop
+shifted_requires_2 : tie.Need-shifted-requires-then-near-there invariant_loop decreases_loop
 shifted_requires_2 c κs = search rules
 
-two_sided_requires : tie.Need-two-sided-requires invariant_loop decreases_loop
+two_sided_requires : tie.Need-two_sided-requires invariant_loop decreases_loop
 two_sided_requires c κs = search rules
 
-returns : tie.Need-returns invariant_loop decreases_loop
+returns : tie.Need-returns-then-two_sided invariant_loop decreases_loop
 returns c = search rules
 
-add_j : tie.Need-overflow-add-j invariant_loop decreases_loop
+add_j : tie.Need-overflow_add-j invariant_loop decreases_loop
 add_j c = search rules
 
-loop_less : tie.Need-loop-smaller invariant_loop decreases_loop
+loop_less : tie.Need-loop-j-smaller invariant_loop decreases_loop
 loop_less c = search rules
 
-loop_again : tie.Need-loop-preserved invariant_loop decreases_loop
+loop_again : tie.Need-loop-j-preserved invariant_loop decreases_loop
 loop_again c = search rules
 
-returns_2 : tie.Need-returns-2 invariant_loop decreases_loop
+returns_2 : tie.Need-returns invariant_loop decreases_loop
 returns_2 c = search rules
 
 pub any_two_sided_spec : {M : Type 1} → statement M

@@ -14,117 +14,117 @@ use Rattle.support.specs.SupportLaws.{known, spread_keeps}
 use Rattle.support.proofs.spread.Statement.{statement}
 use Rattle.support.proofs.spread.Tie as tie
 
-abbrev invariant_loop : tie.invariant_loop
+abbrev invariant_loop : tie.invariant-loop-j
 invariant_loop lag near ops d₀ i next least end changed₀ j₀ d changed j = (j ≤ ops) × (length changed ≡ most_operations) × Keeps (LagsKept ops lag) ops d₀ d
 
-abbrev decreases_loop : tie.decreases_loop
+abbrev decreases_loop : tie.decreases-loop-j
 decreases_loop lag near ops d₀ i next least end changed₀ j₀ d changed j = ops - j
 
-any_two_sided_requires : tie.Need-any-two-sided-requires invariant_loop decreases_loop
+any_two_sided_requires : tie.Need-any_two_sided-requires invariant_loop decreases_loop
 any_two_sided_requires c κs = search rules
 
-mul_next_starts_if : tie.Need-overflow-mul-next-starts-if invariant_loop decreases_loop
+mul_next_starts_if : tie.Need-offset_bounds-d-i invariant_loop decreases_loop
 mul_next_starts_if c = search rules
 
-element_copy_out_next_starts_if : tie.Need-element-copy-out-next-starts-if invariant_loop decreases_loop
+element_copy_out_next_starts_if : tie.Need-bounds-d-i invariant_loop decreases_loop
 element_copy_out_next_starts_if c = search rules
 
-next_starts_if_requires : tie.Need-next-starts-if-requires invariant_loop decreases_loop
+next_starts_if_requires : tie.Need-next_starts_if-next-requires invariant_loop decreases_loop
 next_starts_if_requires c κs = search rules
 
-mul_least : tie.Need-overflow-mul-least invariant_loop decreases_loop
+mul_least : tie.Need-offset_bounds-d-i-2 invariant_loop decreases_loop
 mul_least c = search rules
 
-element_copy_out_least : tie.Need-element-copy-out-least invariant_loop decreases_loop
+element_copy_out_least : tie.Need-bounds-d-i-2 invariant_loop decreases_loop
 element_copy_out_least c = search rules
 
-least_requires : tie.Need-least-requires invariant_loop decreases_loop
+least_requires : tie.Need-least-least-requires invariant_loop decreases_loop
 least_requires c κs = search rules
 
-mul_end_of : tie.Need-overflow-mul-end-of invariant_loop decreases_loop
+mul_end_of : tie.Need-offset_bounds-d-i-3 invariant_loop decreases_loop
 mul_end_of c = search rules
 
-element_copy_out_end_of : tie.Need-element-copy-out-end-of invariant_loop decreases_loop
+element_copy_out_end_of : tie.Need-bounds-d-i-3 invariant_loop decreases_loop
 element_copy_out_end_of c = search rules
 
-end_of_requires : tie.Need-end-of-requires invariant_loop decreases_loop
+end_of_requires : tie.Need-end_of-end-requires invariant_loop decreases_loop
 end_of_requires c κs = search rules
 
-loop_holds : tie.Need-loop-init invariant_loop decreases_loop
+loop_holds : tie.Need-loop-j-init invariant_loop decreases_loop
 loop_holds c = search rules
 
-mul_there : tie.Need-overflow-mul-there invariant_loop decreases_loop
+mul_there : tie.Need-overflow_mul-there invariant_loop decreases_loop
 mul_there c = search rules
 
-add_there : tie.Need-overflow-add-there invariant_loop decreases_loop
+add_there : tie.Need-overflow_add-there invariant_loop decreases_loop
 add_there c = search rules
 
-mul_back : tie.Need-overflow-mul-back invariant_loop decreases_loop
+mul_back : tie.Need-overflow_mul-back invariant_loop decreases_loop
 mul_back c = search rules
 
-add_back : tie.Need-overflow-add-back invariant_loop decreases_loop
+add_back : tie.Need-overflow_add-back invariant_loop decreases_loop
 add_back c = search rules
 
-element_copy_out_if1 : tie.Need-element-copy-out-if1 invariant_loop decreases_loop
+element_copy_out_if1 : tie.Need-bounds-near-there invariant_loop decreases_loop
 element_copy_out_if1 c = search rules
 
-mul_shifted : tie.Need-overflow-mul-shifted invariant_loop decreases_loop
+mul_shifted : tie.Need-offset_bounds-lag-there invariant_loop decreases_loop
 mul_shifted c = search rules
 
-element_copy_out_shifted : tie.Need-element-copy-out-shifted invariant_loop decreases_loop
+element_copy_out_shifted : tie.Need-bounds-lag-there invariant_loop decreases_loop
 element_copy_out_shifted c = search rules
 
-shifted_requires : tie.Need-shifted-requires invariant_loop decreases_loop
+shifted_requires : tie.Need-shifted-after-requires invariant_loop decreases_loop
 shifted_requires c κs = search rules
 
-mul_shifted_2 : tie.Need-overflow-mul-shifted-2 invariant_loop decreases_loop
+mul_shifted_2 : tie.Need-offset_bounds-lag-back invariant_loop decreases_loop
 mul_shifted_2 c = search rules
 
-element_copy_out_shifted_2 : tie.Need-element-copy-out-shifted-2 invariant_loop decreases_loop
+element_copy_out_shifted_2 : tie.Need-bounds-lag-back invariant_loop decreases_loop
 element_copy_out_shifted_2 c = search rules
 
-shifted_requires_2 : tie.Need-shifted-requires-2 invariant_loop decreases_loop
+shifted_requires_2 : tie.Need-shifted-before-requires invariant_loop decreases_loop
 shifted_requires_2 c κs = search rules
 
-mul_supported : tie.Need-overflow-mul-supported invariant_loop decreases_loop
+mul_supported : tie.Need-offset_bounds-d-j invariant_loop decreases_loop
 mul_supported c = search rules
 
-element_copy_out_supported : tie.Need-element-copy-out-supported invariant_loop decreases_loop
+element_copy_out_supported : tie.Need-bounds-d-j invariant_loop decreases_loop
 element_copy_out_supported c = search rules
 
-supported_requires : tie.Need-supported-requires invariant_loop decreases_loop
-supported_requires c κs = (c.before.before.before.before.shifted.ensures.within, c.before.before.shifted2.ensures.within, c.before.before.before.before.before.before.before.before.before.before.before.before.least.ensures.within, c.before.before.before.before.before.before.before.before.before.before.end_of_lem.ensures.within)
+supported_requires : tie.Need-supported-row-requires invariant_loop decreases_loop
+supported_requires c κs = (c.before.before.before.before.shifted-after.ensures.within, c.before.before.shifted-before.ensures.within, c.before.before.before.before.before.before.before.before.before.before.before.before.least-least.ensures.within, c.before.before.before.before.before.before.before.before.before.before.end_of-end.ensures.within)
 
-mul_differ : tie.Need-overflow-mul-differ invariant_loop decreases_loop
+mul_differ : tie.Need-offset_bounds-d-j-then-near-there invariant_loop decreases_loop
 mul_differ c = search rules
 
-index_1_differ : tie.Need-bounds-1-differ invariant_loop decreases_loop
+index_1_differ : tie.Need-bounds-d-j-then-near-there invariant_loop decreases_loop
 index_1_differ c = search rules
 
 differ_requires : tie.Need-differ-requires invariant_loop decreases_loop
 differ_requires c κs = search rules
 
-array_write_changed : tie.Need-array-write-changed invariant_loop decreases_loop
+array_write_changed : tie.Need-bounds-changed-j invariant_loop decreases_loop
 array_write_changed c = search rules
 
-mul_t31 : tie.Need-overflow-mul-t31 invariant_loop decreases_loop
+mul_t31 : tie.Need-offset_bounds-d-j-then-near-there-2 invariant_loop decreases_loop
 mul_t31 c = search rules
 
-element_set_from_d : tie.Need-element-set-from-d invariant_loop decreases_loop
+element_set_from_d : tie.Need-bounds-d-j-then-near-there-2 invariant_loop decreases_loop
 element_set_from_d c = search rules
 
-add_j : tie.Need-overflow-add-j invariant_loop decreases_loop
+add_j : tie.Need-overflow_add-j invariant_loop decreases_loop
 add_j c = search rules
 
-loop_less : tie.Need-loop-smaller invariant_loop decreases_loop
+loop_less : tie.Need-loop-j-smaller invariant_loop decreases_loop
 loop_less c = search rules
 
-loop_again : tie.Need-loop-preserved invariant_loop decreases_loop
-loop_again c = let s = c.before.before.before.before.before.before.before.before.before.before.before in let l = c.before.before.before.loop in let hj = c.before.before.loop-test.true in (
+loop_again : tie.Need-loop-j-preserved invariant_loop decreases_loop
+loop_again c = let s = c.before.before.before.before.before.before.before.before.before.before.before in let l = c.before.before.before.loop-j in let hj = c.before.before.loop-j-test.true in (
   omega (arith, hj),
-  ⊎_elim (λ w. rw w.12 (simp length-set l.invariant.1)) (λ w. rw w.2 l.invariant.1) c.if1.branch,
-  ⊎_elim (λ w. rw w.11 (spread_keeps s.args.ops s.args.lag.now s.args.i l.j s.requires.1 hj (rw (kept (fits32 w.1.given)) at w.2.ensures) (rw (kept (fits32 w.3.given)) at w.4.ensures) (known c.before.before.before.before.before.before.least.ensures c.before.before.before.before.end_of_lem.ensures c.before.before.before.before.before.before.before.before.next-starts-if.ensures) w.7.ensures l.invariant.2))
-      (λ w. rw w.1 l.invariant.2) c.if1.branch,
+  ⊎_elim (λ w. rw w.changed-is (simp length-set l.invariant.1)) (λ w. rw w.changed-is l.invariant.1) c.if-near-there.branch-raw,
+  ⊎_elim (λ w. rw w.d-is (spread_keeps s.args.ops s.args.lag.now s.args.i l.j s.requires.1 hj (rw (kept (fits32 w.shifted-arg-1.given)) at w.shifted-after.ensures) (rw (kept (fits32 w.shifted-arg-then-near-there-1.given)) at w.shifted-before.ensures) (known c.before.before.before.before.before.before.least-least.ensures c.before.before.before.before.end_of-end.ensures c.before.before.before.before.before.before.before.before.next_starts_if-next.ensures) w.supported-row.ensures l.invariant.2))
+      (λ w. rw w.d-is l.invariant.2) c.if-near-there.branch-raw,
 )
 
 returns : tie.Need-returns invariant_loop decreases_loop

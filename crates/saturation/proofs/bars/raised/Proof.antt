@@ -9,54 +9,54 @@ use Rattle.saturation.specs.BarLaws.{raised_all}
 use Rattle.saturation.proofs.bars.raised.Statement.{statement}
 use Rattle.saturation.proofs.bars.raised.Tie as tie
 
-abbrev invariant_loop : tie.invariant_loop
+abbrev invariant_loop : tie.invariant-loop-i
 invariant_loop full bar resource reach ops kind w out₀ i₀ out i = (i ≤ ops) × (length out ≡ most_operations) × ((k : ℕ) → k < i → RaiseOne full (eqb (vec resource k) kind) (vec bar k) (vec reach k) w (vec out k))
 
-abbrev decreases_loop : tie.decreases_loop
+abbrev decreases_loop : tie.decreases-loop-i
 decreases_loop full bar resource reach ops kind w out₀ i₀ out i = ops - i
 
-loop_holds : tie.Need-loop-init invariant_loop decreases_loop
+loop_holds : tie.Need-loop-i-init invariant_loop decreases_loop
 loop_holds c = (omega arith, search rules, λ k l. absurd (omega arith))
 
-mul_raise : tie.Need-overflow-mul-raise invariant_loop decreases_loop
+mul_raise : tie.Need-offset_bounds-resource-i invariant_loop decreases_loop
 mul_raise c = search rules
 
-element_copy_out_raise : tie.Need-element-copy-out-raise invariant_loop decreases_loop
+element_copy_out_raise : tie.Need-bounds-resource-i invariant_loop decreases_loop
 element_copy_out_raise c = search rules
 
-mul_raise_2 : tie.Need-overflow-mul-raise-2 invariant_loop decreases_loop
+mul_raise_2 : tie.Need-offset_bounds-bar-i invariant_loop decreases_loop
 mul_raise_2 c = search rules
 
-element_copy_out_raise_2 : tie.Need-element-copy-out-raise-2 invariant_loop decreases_loop
+element_copy_out_raise_2 : tie.Need-bounds-bar-i invariant_loop decreases_loop
 element_copy_out_raise_2 c = search rules
 
-mul_raise_3 : tie.Need-overflow-mul-raise-3 invariant_loop decreases_loop
+mul_raise_3 : tie.Need-offset_bounds-reach-i invariant_loop decreases_loop
 mul_raise_3 c = search rules
 
-element_copy_out_raise_3 : tie.Need-element-copy-out-raise-3 invariant_loop decreases_loop
+element_copy_out_raise_3 : tie.Need-bounds-reach-i invariant_loop decreases_loop
 element_copy_out_raise_3 c = search rules
 
 raise_requires : tie.Need-raise-requires invariant_loop decreases_loop
 raise_requires c κs = search rules
 
-mul_out : tie.Need-overflow-mul-out invariant_loop decreases_loop
+mul_out : tie.Need-offset_bounds-out-i invariant_loop decreases_loop
 mul_out c = search rules
 
-array_write_out : tie.Need-array-write-out invariant_loop decreases_loop
+array_write_out : tie.Need-bounds-out-i invariant_loop decreases_loop
 array_write_out c = search rules
 
-add_i : tie.Need-overflow-add-i invariant_loop decreases_loop
+add_i : tie.Need-overflow_add-i invariant_loop decreases_loop
 add_i c = search rules
 
-loop_less : tie.Need-loop-smaller invariant_loop decreases_loop
+loop_less : tie.Need-loop-i-smaller invariant_loop decreases_loop
 loop_less c = search rules
 
-loop_again : tie.Need-loop-preserved invariant_loop decreases_loop
-loop_again c = let l = c.before.before.before.before.before.loop in let s = c.before.before.before.before.before.before in let a = s.args in
+loop_again : tie.Need-loop-i-preserved invariant_loop decreases_loop
+loop_again c = let l = c.before.before.before.before.before.loop-i in let s = c.before.before.before.before.before.before in let a = s.args in
     (omega arith, simp length-set l.invariant.1, store_more (λ k z. RaiseOne a.full (eqb (vec a.resource.now k) a.kind) (vec a.bar.now k) (vec a.reach.now k) a.w z) l.out l.i _ 0 (omega (arith, l.invariant.1, s.requires)) c.raise.ensures l.invariant.2)
 
 returns : tie.Need-returns invariant_loop decreases_loop
-returns c = raised_all (vec c.before.before.args.resource.now) (λ i h. c.before.loop.invariant.2 i (omega arith))
+returns c = raised_all (vec c.before.before.args.resource.now) (λ i h. c.before.loop-i.invariant.2 i (omega arith))
 
 pub raised_spec : {M : Type 1} → statement M
 raised_spec =

@@ -5,11 +5,11 @@ use Rattle.laws.specs.Z.{true_false}
 use Rattle.saturation_slots.proofs.slots.either.Statement.{statement}
 use Rattle.saturation_slots.proofs.slots.either.Tie as tie
 
-returns : tie.Need-returns
+returns : tie.Need-returns-then-a
 returns c = search rules
 
-returns_2 : tie.Need-returns-2
-returns_2 c = record { one = λ e. true_false (sym e ∙ c.if1.false); two = λ e. e }
+returns_2 : tie.Need-returns-else-a
+returns_2 c = record { one = λ e. true_false (sym e ∙ c.if-a.false); two = λ e. e }
 
 pub either_spec : {M : Type 1} → statement M
 either_spec = tie.close (tie.spec returns returns_2)

@@ -4,23 +4,23 @@ use Rattle.std.proofs.Common.{arith, rules, le-ltb, lt-ltb}
 use Rattle.saturation_slots.proofs.slots.slot_at.Statement.{statement}
 use Rattle.saturation_slots.proofs.slots.slot_at.Tie as tie
 
-add_if1 : tie.Need-overflow-add-if1
+add_if1 : tie.Need-overflow_add-s
 add_if1 c = search rules
 
-add_result : tie.Need-overflow-add-result
+add_result : tie.Need-overflow_add-result
 add_result c = search rules
 
-returns : tie.Need-returns
-returns c = (rw (lt-ltb _ _ c.if1.true), omega arith)
+returns : tie.Need-returns-then-s-w
+returns c = (rw (lt-ltb _ _ c.if-s-w.true), omega arith)
 
-add_result_2 : tie.Need-overflow-add-result-2
+add_result_2 : tie.Need-overflow_add-result-2
 add_result_2 c = search rules
 
-sub_result : tie.Need-overflow-sub-result
+sub_result : tie.Need-overflow_sub-result
 sub_result c = search rules
 
-returns_2 : tie.Need-returns-2
-returns_2 c = (rw (le-ltb _ _ c.if1.false), omega arith)
+returns_2 : tie.Need-returns
+returns_2 c = (rw (le-ltb _ _ c.if-s-w.false), omega arith)
 
 pub slot_at_spec : {M : Type 1} → statement M
 slot_at_spec = tie.close (tie.spec add_if1 add_result returns add_result_2 sub_result returns_2)

@@ -4,31 +4,31 @@ use Rattle.std.proofs.Common.{◌-◌, ◌≤◌, rules}
 use Rattle.saturation_slots.proofs.touched.touches.Statement.{statement}
 use Rattle.saturation_slots.proofs.touched.touches.Tie as tie
 
-abbrev invariant_loop : tie.invariant_loop
+abbrev invariant_loop : tie.invariant-loop-i
 invariant_loop z ops touch₀ i₀ touch i = i ≤ ops
 
-abbrev decreases_loop : tie.decreases_loop
+abbrev decreases_loop : tie.decreases-loop-i
 decreases_loop z ops touch₀ i₀ touch i = ops - i
 
-loop_holds : tie.Need-loop-init invariant_loop decreases_loop
+loop_holds : tie.Need-loop-i-init invariant_loop decreases_loop
 loop_holds c = search rules
 
-mul_add_touches : tie.Need-overflow-mul-add-touches invariant_loop decreases_loop
+mul_add_touches : tie.Need-offset_bounds-z-i invariant_loop decreases_loop
 mul_add_touches c = search rules
 
-index_1_add_touches : tie.Need-bounds-1-add-touches invariant_loop decreases_loop
+index_1_add_touches : tie.Need-bounds-z-i invariant_loop decreases_loop
 index_1_add_touches c = search rules
 
-add_touches_requires : tie.Need-add-touches-requires invariant_loop decreases_loop
+add_touches_requires : tie.Need-add_touches-requires invariant_loop decreases_loop
 add_touches_requires c κs = search rules
 
-add_i : tie.Need-overflow-add-i invariant_loop decreases_loop
+add_i : tie.Need-overflow_add-i invariant_loop decreases_loop
 add_i c = search rules
 
-loop_less : tie.Need-loop-smaller invariant_loop decreases_loop
+loop_less : tie.Need-loop-i-smaller invariant_loop decreases_loop
 loop_less c = search rules
 
-loop_again : tie.Need-loop-preserved invariant_loop decreases_loop
+loop_again : tie.Need-loop-i-preserved invariant_loop decreases_loop
 loop_again c = search rules
 
 returns : tie.Need-returns invariant_loop decreases_loop

@@ -14,52 +14,52 @@ use Rattle.seats.specs.Seating.{PinOf}
 use Rattle.seats.proofs.pins.pins.Statement.{statement}
 use Rattle.seats.proofs.pins.pins.Tie as tie
 
-abbrev invariant_loop : tie.invariant_loop
+abbrev invariant_loop : tie.invariant-loop-i
 invariant_loop d ops interval kind resource pin₀ i₀ pin i = (i ≤ ops) × (length pin ≡ most_operations) × ((j : ℕ) → j < most_operations → vec pin j ≤ most_intervals) × ((j : ℕ) → j < i → PinOf (eqb (vec resource j) kind) (row_of d j) interval (vec pin j))
 
-abbrev decreases_loop : tie.decreases_loop
+abbrev decreases_loop : tie.decreases-loop-i
 decreases_loop d ops interval kind resource pin₀ i₀ pin i = ops - i
 
-loop_holds : tie.Need-loop-init invariant_loop decreases_loop
+loop_holds : tie.Need-loop-i-init invariant_loop decreases_loop
 loop_holds c = (omega arith, refl, (λ j h. subst (λ (z : ℕ). z ≤ most_intervals) (sym (get_or-replicate most_operations j most_intervals 0 h)) (omega arith)), λ j h. absurd (omega arith))
 
-mul_pin_of : tie.Need-overflow-mul-pin-of invariant_loop decreases_loop
+mul_pin_of : tie.Need-offset_bounds-resource-i invariant_loop decreases_loop
 mul_pin_of c = search rules
 
-array_read_pin_of : tie.Need-array-read-pin-of invariant_loop decreases_loop
+array_read_pin_of : tie.Need-bounds-resource-i invariant_loop decreases_loop
 array_read_pin_of c = search rules
 
-mul_pin_of_2 : tie.Need-overflow-mul-pin-of-2 invariant_loop decreases_loop
+mul_pin_of_2 : tie.Need-offset_bounds-d-i invariant_loop decreases_loop
 mul_pin_of_2 c = search rules
 
-element_copy_out_pin_of : tie.Need-element-copy-out-pin-of invariant_loop decreases_loop
+element_copy_out_pin_of : tie.Need-bounds-d-i invariant_loop decreases_loop
 element_copy_out_pin_of c = search rules
 
-pin_of_requires : tie.Need-pin-of-requires invariant_loop decreases_loop
+pin_of_requires : tie.Need-pin_of-requires invariant_loop decreases_loop
 pin_of_requires c κs = search rules
 
-mul_pin : tie.Need-overflow-mul-pin invariant_loop decreases_loop
+mul_pin : tie.Need-offset_bounds-pin-i invariant_loop decreases_loop
 mul_pin c = search rules
 
-array_write_pin : tie.Need-array-write-pin invariant_loop decreases_loop
+array_write_pin : tie.Need-bounds-pin-i invariant_loop decreases_loop
 array_write_pin c = search rules
 
-add_i : tie.Need-overflow-add-i invariant_loop decreases_loop
+add_i : tie.Need-overflow_add-i invariant_loop decreases_loop
 add_i c = search rules
 
-loop_less : tie.Need-loop-smaller invariant_loop decreases_loop
+loop_less : tie.Need-loop-i-smaller invariant_loop decreases_loop
 loop_less c = search rules
 
-loop_again : tie.Need-loop-preserved invariant_loop decreases_loop
-loop_again c = let s = c.before.before.before.before in let l = c.before.before.before.loop in let h : l.i < length l.pin = omega (arith, l.invariant.1, c.before.before.loop-test.true, s.requires.0) in (
-  omega (arith, c.before.before.loop-test.true),
+loop_again : tie.Need-loop-i-preserved invariant_loop decreases_loop
+loop_again c = let s = c.before.before.before.before in let l = c.before.before.before.loop-i in let h : l.i < length l.pin = omega (arith, l.invariant.1, c.before.before.loop-i-test.true, s.requires.0) in (
+  omega (arith, c.before.before.loop-i-test.true),
   simp length-set l.invariant.1,
   (λ j m. store (λ _ z. z ≤ most_intervals) l.pin l.i c.pin_of.result 0 h c.pin_of.ensures.small j (λ _. l.invariant.2 j m)),
-  store_more (λ j z. PinOf (eqb (vec s.args.t2 j) s.args.kind) (row_of s.args.d.now j) s.args.interval z) l.pin l.i c.pin_of.result 0 h c.pin_of.ensures l.invariant.3,
+  store_more (λ j z. PinOf (eqb (vec s.args.resource j) s.args.kind) (row_of s.args.d.now j) s.args.interval z) l.pin l.i c.pin_of.result 0 h c.pin_of.ensures l.invariant.3,
 )
 
 returns : tie.Need-returns invariant_loop decreases_loop
-returns c = let s = c.before.before in let l = c.before.loop in record { small = l.invariant.2; each = λ i h. l.invariant.3 i (omega (arith, h, c.loop-test.false)) }
+returns c = let s = c.before.before in let l = c.before.loop-i in record { small = l.invariant.2; each = λ i h. l.invariant.3 i (omega (arith, h, c.loop-i-test.false)) }
 
 pub pins_spec : {M : Type 1} → statement M
 pins_spec =

@@ -12,29 +12,29 @@ use Rattle.support.specs.Support.{most_shift}
 use Rattle.support.proofs.rows.filled.Statement.{statement}
 use Rattle.support.proofs.rows.filled.Tie as tie
 
-abbrev invariant_loop : tie.invariant_loop
+abbrev invariant_loop : tie.invariant-loop-k
 invariant_loop first out₀ k₀ out k = (k ≤ most_starts) × (length out ≡ most_shift + most_starts) × ((j : ℕ) → j < k → vec out j ≡ first) × ((j : ℕ) → most_starts ≤ j → vec out j ≡ vec out₀ j)
 
-abbrev decreases_loop : tie.decreases_loop
+abbrev decreases_loop : tie.decreases-loop-k
 decreases_loop first out₀ k₀ out k = most_starts - k
 
-loop_holds : tie.Need-loop-init invariant_loop decreases_loop
+loop_holds : tie.Need-loop-k-init invariant_loop decreases_loop
 loop_holds c = (omega arith, search rules, λ j l. absurd (omega arith), λ j l. refl)
 
-mul_out : tie.Need-overflow-mul-out invariant_loop decreases_loop
+mul_out : tie.Need-offset_bounds-out-k invariant_loop decreases_loop
 mul_out c = search rules
 
-array_write_out : tie.Need-array-write-out invariant_loop decreases_loop
+array_write_out : tie.Need-bounds-out-k invariant_loop decreases_loop
 array_write_out c = search rules
 
-add_k : tie.Need-overflow-add-k invariant_loop decreases_loop
+add_k : tie.Need-overflow_add-k invariant_loop decreases_loop
 add_k c = search rules
 
-loop_less : tie.Need-loop-smaller invariant_loop decreases_loop
+loop_less : tie.Need-loop-k-smaller invariant_loop decreases_loop
 loop_less c = search rules
 
-loop_again : tie.Need-loop-preserved invariant_loop decreases_loop
-loop_again c = let l = c.before.loop in let s = c.before.before in (
+loop_again : tie.Need-loop-k-preserved invariant_loop decreases_loop
+loop_again c = let l = c.before.loop-k in let s = c.before.before in (
   omega arith,
   simp length-set l.invariant.1,
   store_more (λ j z. z ≡ s.args.first) l.out l.k _ 0 (omega (arith, l.invariant.1)) refl l.invariant.2,
@@ -42,7 +42,7 @@ loop_again c = let l = c.before.loop in let s = c.before.before in (
 )
 
 returns : tie.Need-returns invariant_loop decreases_loop
-returns c = record { low = λ k h. c.before.loop.invariant.2 k (omega arith); high = c.before.loop.invariant.3 }
+returns c = record { low = λ k h. c.before.loop-k.invariant.2 k (omega arith); high = c.before.loop-k.invariant.3 }
 
 pub filled_spec : {M : Type 1} → statement M
 filled_spec =
