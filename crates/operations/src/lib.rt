@@ -1,5 +1,7 @@
 // An operation of a sheet with its numbers and those of its type. Any operation number may be asked about: past the
 // arrays every number is 0.
+#![tactic(auto)]
+
 ghost use Rattle.std.specs.Prelude.{◌≡◌, get_or};
 ghost use Rattle.sheet.specs.Sheet.{no_type, no_operation, op_at, type_of};
 

@@ -1,6 +1,6 @@
 -- Demand 3 in one place: for a sheet in range and an interval, what the plan at that interval answers, in both
 -- directions; and what an answer 0, or another, tells of the input. Assumes nothing.
-use Rattle.std.specs.Prelude.{◌≡◌, refl, ◌⊎◌, ℕ, ℤ, pos}
+use Rattle.std.specs.Prelude.{◌≡◌, ◌⊎◌, ℕ, ℤ, pos}
 use Rattle.std.proofs.Common.{sym, ap, subst, ◌∙◌, inl, inr, arith}
 use Rattle.laws.specs.Entry.{vec}
 use Rattle.dependence.specs.Rules.{Meets}
@@ -10,7 +10,6 @@ use Rattle.sheet.specs.AnswerLaws.{sheet_out}
 use Rattle.sheet.specs.Questions.{at_no, at_yes, Accepted}
 use Rattle.sheet.specs.Loop.{sheet_exactly}
 use Rattle.plan.specs.declared.PlanAnswer.{PlanAnswer}
-use Rattle.plan.specs.Rules.{Plan}
 use Rattle.plan.specs.Answers.{HasPlan, First, Given, PlanAt}
 
 -- 0 exactly when there is a plan, and then the first; 5 exactly when no whole-number starts keep the dependences; else

@@ -5,16 +5,16 @@ use borrow.Author.Rules.{rules}
 use Rattle.plan.proofs.resource.slots_needed.Statement.{statement}
 use Rattle.plan.proofs.resource.slots_needed.Tie as tie
 
-mul_shared : tie.Need-overflow-mul-shared
+mul_shared : tie.Need-overflow_mul-shared
 mul_shared c = let h = product_small c.args.operations c.args.busy c.requires.0 c.requires.3 in search rules
 
-add_shared : tie.Need-overflow-add-shared
+add_shared : tie.Need-overflow_add-shared
 add_shared c = let h = product_small c.args.operations c.args.busy c.requires.0 c.requires.3 in search rules
 
-sub_shared : tie.Need-overflow-sub-shared
+sub_shared : tie.Need-overflow_sub-shared
 sub_shared c = search rules
 
-div_shared : tie.Need-nonzero-div-shared
+div_shared : tie.Need-nonzero_div-shared
 div_shared c = search rules
 
 greater_requires : tie.Need-greater-requires
