@@ -2,4 +2,3 @@
 pub mod Relax
 -- ---- laws
 pub mod Coarse
-pub mod Anchor

@@ -6,7 +6,7 @@ use Rattle.domain.specs.Domain.{In}
 use Rattle.task.specs.declared.Task.{Task}
 use Rattle.task.specs.Plan.{TaskOk, PlanOf}
 use Rattle.relax.specs.Relax.{Relaxed, Cluster, Anchored, AnchorRows, moved}
-use Rattle.relax.specs.Anchor.{moved_inside}
+use Rattle.relax.proofs.Anchor.{moved_inside}
 use Rattle.search_steps.specs.Steps.{Budgeted, None, Denied, Emptied}
 
 module _ {q : Task} {d : List (List Bool)} {bounded over found r : Bool} {x : List ℕ} (b : Budgeted (PlanOf q) q.ops d bounded over found x) (n : None over found r) where

@@ -1,7 +1,7 @@
 -- `anchor::anchored` gives a task of which every plan of the task is one, moved to one place.
 -- From `anchored`.
 use borrow.Author.Rules.{rules}
-use Rattle.relax.specs.Anchor.{anchored}
+use Rattle.relax.proofs.Anchor.{anchored}
 use Rattle.anchor.proofs.anchored.Statement.{statement}
 use Rattle.anchor.proofs.anchored.Tie as tie
 

@@ -12,7 +12,7 @@ use Rattle.laws.specs.Z.{kept, fits32}
 use Rattle.domain.specs.Domain.{has}
 use Rattle.task.specs.Plan.{PlanOf, lag_of}
 use Rattle.relax.specs.Relax.{Within}
-use Rattle.relax.specs.Anchor.{close_near}
+use Rattle.relax.proofs.Anchor.{close_near}
 use Rattle.anchor.proofs.cluster.Statement.{statement}
 use Rattle.anchor.proofs.cluster.Tie as tie
 
