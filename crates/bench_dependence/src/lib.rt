@@ -1,5 +1,7 @@
 // The public functions of `dependence` as C functions, for the benchmark in bench/dependence alone. A table gives one
 // cell.
+#![tactic(auto)]
+
 ghost use Rattle.laws.specs.Says.{Says};
 ghost use Rattle.dependence.specs.Graph.{InRange};
 ghost use Rattle.dependence.specs.Answer.{TotalsAnswer, StartsAnswer, WalkAnswer, BoundAnswer, TableAnswer, Separations, Lags};
@@ -11,7 +13,7 @@ use sizes::MOST_OPERATIONS;
 
 // A floor for each operation.
 #[repr(C)]
-#[derive(Drop)]
+#[derive(Clone, Copy)]
 pub struct Floor {
     pub at: [usize; MOST_OPERATIONS],
 }
