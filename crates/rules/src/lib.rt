@@ -1,6 +1,8 @@
 // Tests of a plan's rules for one and for two operations: instances, rivals, slots. Any operation number may be asked
 // about. Each rule is decided once: an operation's own instance in `instance_allowed`, two rivals on one instance in
 // `overlap`; an operation's own start, and what holding an instance asks of it, in the crate `start_rules`.
+#![tactic(auto)]
+
 ghost use Rattle.std.specs.Prelude.{◌≡◌};
 ghost use Rattle.laws.specs.Says.{Says};
 ghost use Rattle.sheet.specs.Sheet.{type_of};

@@ -1,6 +1,8 @@
 // What an operation asks of its own start, whatever the others do: to start and to finish inside the horizon, to start
 // inside its window, and what comes with holding an instance, which a placing table asks too. Any operation number may
 // be asked about.
+#![tactic(auto)]
+
 ghost use Rattle.laws.specs.Says.{Says};
 ghost use Rattle.plan.specs.Rules.{MayHold, HoldsAllowed, InHorizon, InWindow, MayStart};
 ghost use Rattle.start_rules.specs.Starts.{RowFor};

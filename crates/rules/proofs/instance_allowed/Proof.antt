@@ -6,22 +6,22 @@ use borrow.Author.Rules.{rules}
 use Rattle.rules.proofs.instance_allowed.Statement.{statement}
 use Rattle.rules.proofs.instance_allowed.Tie as tie
 
-instances_of_requires : tie.Need-instances-of-requires
+instances_of_requires : tie.Need-instances_of-limit-requires
 instances_of_requires c κs = search rules
 
-returns : tie.Need-returns
+returns : tie.Need-returns-then-limit-eq0
 returns c =
-    let e = c.before.instances-of.ensures in
-    last (eq_says c.before.before.args.instance 0)
-    (λ h. record { limited = λ l. absurd (omega (arith, c.if1.true)); unlimited = λ _. h })
-    (λ p. p.unlimited (omega (arith, c.if1.true)))
+    let e = c.instances_of-limit.ensures in
+    last (eq_says c.args.instance 0)
+    (λ h. record { limited = λ l. absurd (omega (arith, c.if-limit-eq0.true)); unlimited = λ _. h })
+    (λ p. p.unlimited (omega (arith, c.if-limit-eq0.true)))
 
-returns_2 : tie.Need-returns-2
+returns_2 : tie.Need-returns
 returns_2 c =
-    let e = c.before.instances-of.ensures in
-    last (lt_says c.before.before.args.instance c.before.instances-of.result)
-    (λ h. record { limited = λ _. omega (arith, h); unlimited = λ z. absurd (omega (arith, c.if1.false)) })
-    (λ p. omega (arith, p.limited (omega (arith, c.if1.false))))
+    let e = c.instances_of-limit.ensures in
+    last (lt_says c.args.instance c.instances_of-limit.result)
+    (λ h. record { limited = λ _. omega (arith, h); unlimited = λ z. absurd (omega (arith, c.if-limit-eq0.false)) })
+    (λ p. omega (arith, p.limited (omega (arith, c.if-limit-eq0.false))))
 
 pub instance_allowed_spec : {M : Type 1} → statement M
 instance_allowed_spec = tie.close (tie.spec instances_of_requires returns returns_2)

@@ -9,10 +9,10 @@ use borrow.Author.Rules.{rules}
 use Rattle.rules.proofs.overlap.Statement.{statement}
 use Rattle.rules.proofs.overlap.Tie as tie
 
-busy_of_requires : tie.Need-busy-of-requires
+busy_of_requires : tie.Need-busy_of-requires
 busy_of_requires c κs = search rules
 
-busy_of_requires_2 : tie.Need-busy-of-requires-2
+busy_of_requires_2 : tie.Need-busy_of-requires-2
 busy_of_requires_2 c κs = search rules
 
 meet_requires : tie.Need-meet-requires
@@ -20,10 +20,10 @@ meet_requires c κs = search rules
 
 returns : tie.Need-returns
 returns c =
-    let a = c.before.before.before.args in
-    let k = c.before.busy-of2 in
-    subst (λ (m : ℕ). Says (Meet a.interval m (type_of a.sheet a.j).busy a.t a.u) c.meet.result) c.before.before.busy-of.ensures
-    (subst (λ (m : ℕ). Says (Meet a.interval c.before.before.busy-of.result m a.t a.u) c.meet.result) k.ensures c.meet.ensures)
+    let a = c.args in
+    let k = c.busy_of-2 in
+    subst (λ (m : ℕ). Says (Meet a.interval m (type_of a.sheet a.j).busy a.t a.u) c.meet.result) c.busy_of.ensures
+    (subst (λ (m : ℕ). Says (Meet a.interval c.busy_of.result m a.t a.u) c.meet.result) k.ensures c.meet.ensures)
 
 pub overlap_spec : {M : Type 1} → statement M
 overlap_spec = tie.close (tie.spec busy_of_requires busy_of_requires_2 meet_requires returns)

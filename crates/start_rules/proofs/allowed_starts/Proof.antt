@@ -21,53 +21,53 @@ use Rattle.start_rules.proofs.allowed_starts.Tie as tie
 abbrev Tested : ℕ → ResourceType → Operation → ℕ → ℕ → Bool → Type 0
 Tested horizon kind o interval k z = Says (MayStart horizon kind o interval k) z
 
-abbrev invariant_loop : tie.invariant_loop
+abbrev invariant_loop : tie.invariant-loop-t
 invariant_loop interval op horizon operation kind row₀ t₀ row t = (t ≤ most_starts) × (length row ≡ most_starts) × ((k : ℕ) → k < t → Tested horizon kind operation interval k (get_or row k false))
 
-abbrev decreases_loop : tie.decreases_loop
+abbrev decreases_loop : tie.decreases-loop-t
 decreases_loop interval op horizon operation kind row₀ t₀ row t = most_starts - t
 
-operation_in_requires : tie.Need-operation-in-requires invariant_loop decreases_loop
+operation_in_requires : tie.Need-operation_in-operation-requires invariant_loop decreases_loop
 operation_in_requires c κs = search rules
 
-type_in_requires : tie.Need-type-in-requires invariant_loop decreases_loop
+type_in_requires : tie.Need-type_in-kind-requires invariant_loop decreases_loop
 type_in_requires c κs = search rules
 
-loop_holds : tie.Need-loop-init invariant_loop decreases_loop
+loop_holds : tie.Need-loop-t-init invariant_loop decreases_loop
 loop_holds c = (omega arith, search rules, λ k l. absurd (omega arith))
 
-may_start_requires : tie.Need-may-start-requires invariant_loop decreases_loop
+may_start_requires : tie.Need-may_start-requires invariant_loop decreases_loop
 may_start_requires c κs = search rules
 
-array_write_row : tie.Need-array-write-row invariant_loop decreases_loop
+array_write_row : tie.Need-bounds-row-t invariant_loop decreases_loop
 array_write_row c = search rules
 
-add_t : tie.Need-overflow-add-t invariant_loop decreases_loop
+add_t : tie.Need-overflow_step-t invariant_loop decreases_loop
 add_t c = search rules
 
-loop_less : tie.Need-loop-smaller invariant_loop decreases_loop
+loop_less : tie.Need-loop-t-smaller invariant_loop decreases_loop
 loop_less c = search rules
 
-loop_again : tie.Need-loop-preserved invariant_loop decreases_loop
+loop_again : tie.Need-loop-t-preserved invariant_loop decreases_loop
 loop_again c =
-    let l = c.before.before.loop in
-    let f = c.before.before.before in
-    let o = f.before.before in
-    let a = o.before.before.args in
-    (omega arith, simp length-set l.invariant.1, store_more (Tested a.sheet.horizon f.type_in.result o.operation-in.result a.interval) l.row l.t _ false (omega (arith, l.invariant.1)) c.may-start.ensures l.invariant.2)
+    let l = c.loop-t in
+    let f = c in
+    let o = f in
+    let a = o.args in
+    (omega arith, simp length-set l.invariant.1, store_more (Tested a.sheet.horizon f.type_in-kind.result o.operation_in-operation.result a.interval) l.row l.t _ false (omega (arith, l.invariant.1)) c.may_start.ensures l.invariant.2)
 
 returns : tie.Need-returns invariant_loop decreases_loop
 returns c =
-    let l = c.before.loop in
-    let f = c.before.before in
-    let o = f.before.before in
-    let a = o.before.before.args in
+    let l = c.loop-t in
+    let f = c in
+    let o = f in
+    let a = o.args in
     let H = a.sheet.horizon in
-    let kind = f.type_in.ensures ∙ ap (λ (x : Operation). get_or a.sheet.types x.resource no_type) o.operation-in.ensures in
+    let kind = f.type_in-kind.ensures ∙ ap (λ (x : Operation). get_or a.sheet.types x.resource no_type) o.operation_in-operation.ensures in
     record {
       start = λ k h.
           subst (λ (x : ResourceType). Tested H x (op_at a.sheet a.op) a.interval k (get_or l.row k false)) kind
-          (subst (λ (x : Operation). Tested H f.type_in.result x a.interval k (get_or l.row k false)) o.operation-in.ensures
+          (subst (λ (x : Operation). Tested H f.type_in-kind.result x a.interval k (get_or l.row k false)) o.operation_in-operation.ensures
           (l.invariant.2 k (omega arith)));
     }
 

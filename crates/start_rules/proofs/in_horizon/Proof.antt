@@ -8,22 +8,22 @@ use Rattle.laws.specs.Says.{no_says}
 use Rattle.start_rules.proofs.in_horizon.Statement.{statement}
 use Rattle.start_rules.proofs.in_horizon.Tie as tie
 
-returns : tie.Need-returns
-returns c = no_says (λ p. omega (arith, c.if1.true, p.starts))
+returns : tie.Need-returns-then-horizon-t
+returns c = no_says (λ p. omega (arith, c.if-horizon-t.true, p.starts))
 
-returns_2 : tie.Need-returns-2
+returns_2 : tie.Need-returns-then-left-gt0
 returns_2 c =
-    let a = c.before.before.args in
+    let a = c.args in
     record {
-      yes = λ e. record { starts = omega (arith, c.before.if1.false, c.if2.true); finishes = omega (arith, c.before.if1.false, leb-true a.latency (a.horizon - a.t) e) };
-      no = λ e p. omega (arith, c.before.if1.false, leb-false a.latency (a.horizon - a.t) e, p.finishes);
+      yes = λ e. record { starts = omega (arith, c.if-horizon-t.false, c.if-left-gt0.true); finishes = omega (arith, c.if-horizon-t.false, leb-true a.latency (a.horizon - a.t) e) };
+      no = λ e p. omega (arith, c.if-horizon-t.false, leb-false a.latency (a.horizon - a.t) e, p.finishes);
     }
 
-returns_3 : tie.Need-returns-3
+returns_3 : tie.Need-returns-else-left-gt0
 returns_3 c =
-    let a = c.before.before.args in
+    let a = c.args in
     record {
-      yes = λ e. absurd (omega (arith, c.if2.false, ltb-true 0 (a.horizon - a.t) e));
+      yes = λ e. absurd (omega (arith, c.if-left-gt0.false, ltb-true 0 (a.horizon - a.t) e));
       no = λ e p. omega (arith, ltb-false 0 (a.horizon - a.t) e, p.starts);
     }
 
