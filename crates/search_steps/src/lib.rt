@@ -1,6 +1,8 @@
 // One step of the search: what a node looks at, which operation is split, what a search answers, and the descent to the
 // first plan. An inner layer, a crate of its own for the check's time; its functions ask for a task whose numbers are
 // within its arrays (`TaskOk`), or for operations of it. Caller: `search`, which is itself asked about such a task.
+#![tactic(auto)]
+
 use sizes::MOST_OPERATIONS;
 
 mod budget;
@@ -20,7 +22,7 @@ pub type Marks = [bool; MOST_OPERATIONS];
 pub type Blame = [u32; MOST_OPERATIONS];
 
 // What a search answers: that it is over and says nothing, or whether there is a plan, and one.
-#[derive(Drop)]
+#[derive(Clone, Copy)]
 pub struct Found {
     pub over: bool,
     pub yes: bool,
@@ -30,7 +32,7 @@ pub struct Found {
 }
 
 #[repr(C)]
-#[derive(Drop)]
+#[derive(Clone, Copy)]
 pub struct First {
     pub yes: bool,
     pub starts: [usize; MOST_OPERATIONS],

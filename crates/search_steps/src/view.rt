@@ -11,7 +11,7 @@ use domain::Domain;
 use sizes::{MOST_OPERATIONS, MOST_STARTS};
 use task::Task;
 
-#[derive(Drop)]
+#[derive(Clone, Copy)]
 pub struct View {
     pub done: bool,
     pub yes: bool,

@@ -6,10 +6,10 @@ use Rattle.laws.specs.Z.{true_false}
 use Rattle.search_steps.proofs.budget.spent.Statement.{statement}
 use Rattle.search_steps.proofs.budget.spent.Tie as tie
 
-returns : tie.Need-returns
+returns : tie.Need-returns-then-bounded
 returns c = search rules
 
-returns_2 : tie.Need-returns-2
+returns_2 : tie.Need-returns-else-bounded
 returns_2 c = λ e. true_false (sym e)
 
 pub spent_spec : {M : Type 1} → statement M

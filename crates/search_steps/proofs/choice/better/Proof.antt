@@ -7,19 +7,19 @@ use Rattle.sizes.specs.Sizes.{most_starts}
 use Rattle.search_steps.proofs.choice.better.Statement.{statement}
 use Rattle.search_steps.proofs.choice.better.Tie as tie
 
-returns : tie.Need-returns
+returns : tie.Need-returns-then-c-lt2
 returns c = search rules
 
-returns_2 : tie.Need-returns-2
+returns_2 : tie.Need-returns-then-none
 returns_2 c = search rules
 
-mul_result : tie.Need-overflow-mul-result
-mul_result c = let a = c.before.before.args in omega (arith, mul-le-mul {n₁ = a.c} {m₁ = a.blame} {n₂ = most_starts} {m₂ = 4294967296} (omega arith) (omega arith))
+mul_result : tie.Need-overflow_mul-result
+mul_result c = let a = c.args in omega (arith, mul-le-mul {n₁ = a.c} {m₁ = a.blame} {n₂ = most_starts} {m₂ = 4294967296} (omega arith) (omega arith))
 
-mul_result_2 : tie.Need-overflow-mul-result-2
-mul_result_2 c = let a = c.before.before.args in omega (arith, mul-le-mul {n₁ = a.best} {m₁ = a.b} {n₂ = most_starts} {m₂ = 4294967296} (omega arith) (omega arith))
+mul_result_2 : tie.Need-overflow_mul-result-2
+mul_result_2 c = let a = c.args in omega (arith, mul-le-mul {n₁ = a.best} {m₁ = a.b} {n₂ = most_starts} {m₂ = 4294967296} (omega arith) (omega arith))
 
-returns_3 : tie.Need-returns-3
+returns_3 : tie.Need-returns
 returns_3 c = search rules
 
 pub better_spec : {M : Type 1} → statement M

@@ -9,38 +9,38 @@ use Rattle.sizes.specs.Sizes.{most_starts}
 use Rattle.search_steps.proofs.choice.slots_seen.Statement.{statement}
 use Rattle.search_steps.proofs.choice.slots_seen.Tie as tie
 
-abbrev invariant_loop : tie.invariant_loop
+abbrev invariant_loop : tie.invariant-loop-t
 invariant_loop interval row seen₀ s₀ t₀ seen s t = (t ≤ most_starts) × (length seen ≡ most_starts) × (s < interval)
 
-abbrev decreases_loop : tie.decreases_loop
+abbrev decreases_loop : tie.decreases-loop-t
 decreases_loop interval row seen₀ s₀ t₀ seen s t = most_starts - t
 
-loop_holds : tie.Need-loop-init invariant_loop decreases_loop
+loop_holds : tie.Need-loop-t-init invariant_loop decreases_loop
 loop_holds c = search rules
 
-array_read_either : tie.Need-array-read-either invariant_loop decreases_loop
+array_read_either : tie.Need-bounds-row-t invariant_loop decreases_loop
 array_read_either c = search rules
 
-array_read_either_2 : tie.Need-array-read-either-2 invariant_loop decreases_loop
+array_read_either_2 : tie.Need-bounds-seen-s invariant_loop decreases_loop
 array_read_either_2 c = search rules
 
 either_requires : tie.Need-either-requires invariant_loop decreases_loop
 either_requires c κs = search rules
 
-array_write_seen : tie.Need-array-write-seen invariant_loop decreases_loop
+array_write_seen : tie.Need-bounds-seen-s-in-loop-t invariant_loop decreases_loop
 array_write_seen c = search rules
 
-next_class_requires : tie.Need-next-class-requires invariant_loop decreases_loop
+next_class_requires : tie.Need-next_class-next-requires invariant_loop decreases_loop
 next_class_requires c κs = search rules
 
-add_t : tie.Need-overflow-add-t invariant_loop decreases_loop
+add_t : tie.Need-overflow_add-t invariant_loop decreases_loop
 add_t c = search rules
 
-loop_less : tie.Need-loop-smaller invariant_loop decreases_loop
+loop_less : tie.Need-loop-t-smaller invariant_loop decreases_loop
 loop_less c = search rules
 
-loop_again : tie.Need-loop-preserved invariant_loop decreases_loop
-loop_again c = (omega arith, search rules, c.next-class.ensures.within)
+loop_again : tie.Need-loop-t-preserved invariant_loop decreases_loop
+loop_again c = (omega arith, search rules, c.next_class-next.ensures.within)
 
 returns : tie.Need-returns invariant_loop decreases_loop
 returns c = search rules

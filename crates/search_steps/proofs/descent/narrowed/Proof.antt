@@ -8,16 +8,16 @@ use Rattle.search_steps.proofs.descent.narrowed.Statement.{statement}
 use Rattle.search_steps.proofs.descent.narrowed.Tie as tie
 
 single_requires : tie.Need-single-requires
-single_requires c κs = omega (arith, c.before.requires.0.ops_ok)
+single_requires c κs = omega (arith, c.requires.0.ops_ok)
 
 narrow_requires : tie.Need-narrow-requires
 narrow_requires c κs = search rules
 
-returns : tie.Need-returns
+returns : tie.Need-returns-then-changed
 returns c = search rules
 
-returns_2 : tie.Need-returns-2
-returns_2 c = keeps_self (PlanOf c.before.args.p) _ _
+returns_2 : tie.Need-returns
+returns_2 c = keeps_self (PlanOf c.args.p) _ _
 
 pub narrowed_spec : {M : Type 1} → statement M
 narrowed_spec =
