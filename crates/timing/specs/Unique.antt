@@ -1,6 +1,6 @@
 -- At most one answer fits an input: the sheet and the interval tell each answer of the services. And the answer number
 -- of the separations, which `bad_walk` gives, tells what their table holds. Assumes nothing.
-use Rattle.std.specs.Prelude.{◌≡◌, refl, List, [], ℕ, ◌<◌, ◌≤◌, get_or, length, ℤ, pos}
+use Rattle.std.specs.Prelude.{◌≡◌, refl, List, [], ℕ, ◌<◌, get_or, length, ℤ, pos}
 use Rattle.std.proofs.Common.{sym, ap, ◌∙◌, arith, ext_get_or}
 use Rattle.sizes.specs.Sizes.{most_operations}
 use Rattle.laws.specs.Entry.{cell, zero_one}

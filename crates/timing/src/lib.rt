@@ -1,5 +1,7 @@
 // The timing services on a loop sheet: earliest starts (ASAP), separations (MinDist) and the recurrence bound (RecMII).
 // Each puts its questions in order and asks the dependence part about the sheet's graph.
+#![tactic(auto)]
+
 ghost use Rattle.std.specs.Prelude.{◌≡◌};
 ghost use Rattle.timing.specs.Answers.{WalkAt, StartsAt, SeparationsAt, RecurrenceAt, without_loop, starts_refused};
 ghost use Rattle.timing.specs.Floors.{Floors};

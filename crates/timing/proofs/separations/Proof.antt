@@ -13,21 +13,21 @@ use Rattle.timing.proofs.separations.Tie as tie
 asked_requires : tie.Need-asked-requires
 asked_requires c κs = search rules
 
-returns : tie.Need-returns
-returns c = refuses table_refused c.before.asked.ensures c.if1.true refl
+returns : tie.Need-returns-then-asked-ne0
+returns c = refuses table_refused c.asked.ensures c.if-asked-ne0.true refl
 
-graph_of_requires : tie.Need-graph-of-requires
+graph_of_requires : tie.Need-graph_of-requires
 graph_of_requires c κs = search rules
 
 separations_requires : tie.Need-separations-requires
 separations_requires c κs = search rules
 
-returns_2 : tie.Need-returns-2
+returns_2 : tie.Need-returns
 returns_2 c =
-    let i = c.before.before in
-    let s = i.before.before.args in
-    separations_at s.sheet s.interval (accepted i.before.asked.ensures i.if1.false)
-    (subst (λ (g : Graph). TableAnswer g s.interval (Separations g s.interval) c.separations.result) c.before.graph-of.ensures c.separations.ensures)
+    let i = c in
+    let s = i.args in
+    separations_at s.sheet s.interval (accepted i.asked.ensures i.if-asked-ne0.false)
+    (subst (λ (g : Graph). TableAnswer g s.interval (Separations g s.interval) c.separations.result) c.graph_of.ensures c.separations.ensures)
 
 pub separations_spec : {M : Type 1} → statement M
 separations_spec =

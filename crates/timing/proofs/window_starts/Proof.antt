@@ -15,10 +15,10 @@ use Rattle.sheet.specs.Sheet.{no_operation}
 use Rattle.timing.proofs.window_starts.Statement.{statement}
 use Rattle.timing.proofs.window_starts.Tie as tie
 
-abbrev invariant_loop : tie.invariant_loop
+abbrev invariant_loop : tie.invariant-loop-i
 invariant_loop ops floor₀ i₀ floor i = (i ≤ most_operations) × (length floor ≡ most_operations) × ((x : ℕ) → x < i → vec floor x ≡ (get_or ops x no_operation).lo)
 
-abbrev decreases_loop : tie.decreases_loop
+abbrev decreases_loop : tie.decreases-loop-i
 decreases_loop ops floor₀ i₀ floor i = most_operations - i
 
 -- past both arrays both are 0
@@ -30,37 +30,37 @@ whole ops floor n m below x = pick (dec_lt x most_operations)
     pick (yes h) = below x h
     pick (no h) = get_or-eq_default floor 0 (omega arith) ∙ sym (ap (λ (o : Operation). o.lo) (get_or-eq_default ops no_operation (omega arith)))
 
-loop_holds : tie.Need-loop-init invariant_loop decreases_loop
+loop_holds : tie.Need-loop-i-init invariant_loop decreases_loop
 loop_holds c = (omega arith, refl, λ x h. absurd (omega arith))
 
-mul_op : tie.Need-overflow-mul-op invariant_loop decreases_loop
+mul_op : tie.Need-offset_bounds-ops-i invariant_loop decreases_loop
 mul_op c = search rules
 
-array_copy_out_op : tie.Need-array-copy-out-op invariant_loop decreases_loop
+array_copy_out_op : tie.Need-bounds-ops-i invariant_loop decreases_loop
 array_copy_out_op c = search rules
 
-mul_floor : tie.Need-overflow-mul-floor invariant_loop decreases_loop
+mul_floor : tie.Need-offset_bounds-floor-i invariant_loop decreases_loop
 mul_floor c = search rules
 
-array_write_floor : tie.Need-array-write-floor invariant_loop decreases_loop
+array_write_floor : tie.Need-bounds-floor-i invariant_loop decreases_loop
 array_write_floor c = search rules
 
-add_i : tie.Need-overflow-add-i invariant_loop decreases_loop
+add_i : tie.Need-overflow_step-i invariant_loop decreases_loop
 add_i c = search rules
 
-loop_less : tie.Need-loop-smaller invariant_loop decreases_loop
+loop_less : tie.Need-loop-i-smaller invariant_loop decreases_loop
 loop_less c = search rules
 
-loop_again : tie.Need-loop-preserved invariant_loop decreases_loop
+loop_again : tie.Need-loop-i-preserved invariant_loop decreases_loop
 loop_again c =
-    let l = c.before.before.loop in
-    let ops = c.before.before.before.args.t1 in
+    let l = c.loop-i in
+    let ops = c.args.ops in
     (omega arith, simp length-set l.invariant.1, store_more (λ x z. z ≡ (get_or ops x no_operation).lo) l.floor l.i _ 0 (omega (arith, l.invariant.1)) refl l.invariant.2)
 
 returns : tie.Need-returns invariant_loop decreases_loop
 returns c =
-    let l = c.before.loop in
-    let ops = c.before.before.args.t1 in
+    let l = c.loop-i in
+    let ops = c.args.ops in
     let n : length ops ≡ most_operations = search rules in
     record { each = whole ops l.floor n l.invariant.1 (λ x h. l.invariant.2 x (omega arith)) }
 
