@@ -3,6 +3,8 @@
 // An inner layer, a crate of its own for the check's time: `search` and `first_plan` ask for a task whose numbers are
 // within its arrays (`TaskOk`).
 // Caller: schedule::plan_at, which proves `TaskOk` from the sheet and from what `dependence` promises.
+#![tactic(auto)]
+
 ghost use Rattle.std.specs.Prelude.{true, ◌<◌};
 ghost use Rattle.domain.specs.Domain.{Solved, FirstIn};
 ghost use Rattle.domain.specs.First.{Good, Lowered};

@@ -66,106 +66,106 @@ callees t = (
   without-class-reads.Learnt,
 )
 
-abbrev search_inv_loop : search-lts.invariant_loop
+abbrev search_inv_loop : search-lts.invariant-loop-p
 search_inv_loop p bounded left d rest₀ i m one row₀ counts₀ rest row counts = Left (PlanOf p) p.ops d i row
 
-abbrev search_μ_loop : search-lts.decreases_loop
+abbrev search_μ_loop : search-lts.decreases-loop-p
 search_μ_loop p bounded left d rest₀ i m one row₀ counts₀ rest row counts = count row
 
 -- the operation to split, where the narrowed domain has no answer yet
-here : (t : ℕ) (c : search-lts.Else2 (callees t) (search_at t) search'.Post search_inv_loop search_μ_loop) → Splits c.before.before.before.before.before.before.args.p.ops c.before.before.before.narrow.result c.before.before.look.result.op c.before.before.look.result.modulus
-here t c = c.before.before.look.ensures.split c.if2.false
+here : (t : ℕ) (c : search-lts.Else-k (callees t) (search_at t) search'.Post search_inv_loop search_μ_loop) → Splits c.args.p.ops c.narrow-d.result c.look-k.result.op c.look-k.result.modulus
+here t c = c.look-k.ensures.split c.if-k.false
 
-narrowed : (t : ℕ) (c : search-lts.After-narrow (callees t) (search_at t) search'.Post search_inv_loop search_μ_loop) → length c.narrow.result ≡ most_operations
+narrowed : (t : ℕ) (c : search-lts.After-narrow-d (callees t) (search_at t) search'.Post search_inv_loop search_μ_loop) → length c.narrow-d.result ≡ most_operations
 narrowed t c = search rules
 
 few : (t : ℕ) (c : search-lts.Start (callees t) (search_at t) search'.Post search_inv_loop search_μ_loop) → c.args.p.ops ≤ most_operations
 few t c = c.requires.1.ops_ok
 
-op_in : (t : ℕ) (c : search-lts.Else2 (callees t) (search_at t) search'.Post search_inv_loop search_μ_loop) → c.before.before.look.result.op < most_operations
+op_in : (t : ℕ) (c : search-lts.Else-k (callees t) (search_at t) search'.Post search_inv_loop search_μ_loop) → c.look-k.result.op < most_operations
 op_in t c = omega (arith, (here t c).op, few t c.before.before.before.before.before.before)
 
 search_spent_requires : (t : ℕ) → search-lts.Need-spent-requires (callees t) (search_at t) search'.Post search_inv_loop search_μ_loop
 search_spent_requires t c κs = search rules
 
-search_no_answer_requires : (t : ℕ) → search-lts.Need-no-answer-requires (callees t) (search_at t) search'.Post search_inv_loop search_μ_loop
+search_no_answer_requires : (t : ℕ) → search-lts.Need-no_answer-requires (callees t) (search_at t) search'.Post search_inv_loop search_μ_loop
 search_no_answer_requires t c κs = search rules
 
-search_returns : (t : ℕ) → search-lts.Need-returns (callees t) (search_at t) search'.Post search_inv_loop search_μ_loop
-search_returns t c = ended _ _ _ (c.before.before.spent.ensures c.before.if1.true) c.no_answer.ensures
+search_returns : (t : ℕ) → search-lts.Need-returns-then-spent (callees t) (search_at t) search'.Post search_inv_loop search_μ_loop
+search_returns t c = ended _ _ _ (c.spent.ensures c.if-spent.true) c.no_answer.ensures
 
-search_narrow_requires : (t : ℕ) → search-lts.Need-narrow-requires (callees t) (search_at t) search'.Post search_inv_loop search_μ_loop
-search_narrow_requires t c κs = c.before.before.requires.1
+search_narrow_requires : (t : ℕ) → search-lts.Need-narrow-d-requires (callees t) (search_at t) search'.Post search_inv_loop search_μ_loop
+search_narrow_requires t c κs = c.requires.1
 
-search_look_requires : (t : ℕ) → search-lts.Need-look-requires (callees t) (search_at t) search'.Post search_inv_loop search_μ_loop
-search_look_requires t c κs = c.before.before.before.requires.1
+search_look_requires : (t : ℕ) → search-lts.Need-look-k-requires (callees t) (search_at t) search'.Post search_inv_loop search_μ_loop
+search_look_requires t c κs = c.requires.1
 
-search_fewer_requires : (t : ℕ) → search-lts.Need-fewer-requires (callees t) (search_at t) search'.Post search_inv_loop search_μ_loop
+search_fewer_requires : (t : ℕ) → search-lts.Need-fewer-rest-requires (callees t) (search_at t) search'.Post search_inv_loop search_μ_loop
 search_fewer_requires t c κs = search rules
 
 search_answer_requires : (t : ℕ) → search-lts.Need-answer-requires (callees t) (search_at t) search'.Post search_inv_loop search_μ_loop
 search_answer_requires t c κs = search rules
 
-search_returns_2 : (t : ℕ) → search-lts.Need-returns-2 (callees t) (search_at t) search'.Post search_inv_loop search_μ_loop
-search_returns_2 t c = told _ _ _ (solved_wider (PlanOf c.before.before.before.before.before.before.before.before.args.p) _ c.before.before.before.before.before.narrow.ensures (c.before.before.before.before.look.ensures.done c.before.before.if2.true)) c.answer.ensures
+search_returns_2 : (t : ℕ) → search-lts.Need-returns-then-k (callees t) (search_at t) search'.Post search_inv_loop search_μ_loop
+search_returns_2 t c = told _ _ _ (solved_wider (PlanOf c.args.p) _ c.narrow-d.ensures (c.look-k.ensures.done c.if-k.true)) c.answer.ensures
 
-search_single_requires : (t : ℕ) → search-lts.Need-single-requires (callees t) (search_at t) search'.Post search_inv_loop search_μ_loop
+search_single_requires : (t : ℕ) → search-lts.Need-single-one-requires (callees t) (search_at t) search'.Post search_inv_loop search_μ_loop
 search_single_requires t c κs = op_in t c
 
-search_mul_row : (t : ℕ) → search-lts.Need-overflow-mul-row (callees t) (search_at t) search'.Post search_inv_loop search_μ_loop
+search_mul_row : (t : ℕ) → search-lts.Need-offset_bounds-d-i (callees t) (search_at t) search'.Post search_inv_loop search_μ_loop
 search_mul_row t c = omega (arith, op_in t c.before)
 
-search_array_copy_out_row : (t : ℕ) → search-lts.Need-array-copy-out-row (callees t) (search_at t) search'.Post search_inv_loop search_μ_loop
+search_array_copy_out_row : (t : ℕ) → search-lts.Need-bounds-d-i (callees t) (search_at t) search'.Post search_inv_loop search_μ_loop
 search_array_copy_out_row t c = op_in t c.before
 
-search_loop_holds : (t : ℕ) → search-lts.Need-loop-init (callees t) (search_at t) search'.Post search_inv_loop search_μ_loop
-search_loop_holds t c = left_all (PlanOf c.before.before.before.before.before.before.before.before.args.p) _ (narrowed t c.before.before.before.before.before) (few t c.before.before.before.before.before.before.before.before) (here t c.before.before)
+search_loop_holds : (t : ℕ) → search-lts.Need-loop-p-init (callees t) (search_at t) search'.Post search_inv_loop search_μ_loop
+search_loop_holds t c = left_all (PlanOf c.args.p) _ (narrowed t c.before.before.before.before.before) (few t c.before.before.before.before.before.before.before.before) (here t c.before.before)
 
-search_least_requires : (t : ℕ) → search-lts.Need-least-requires (callees t) (search_at t) search'.Post search_inv_loop search_μ_loop
+search_least_requires : (t : ℕ) → search-lts.Need-least-t-requires (callees t) (search_at t) search'.Post search_inv_loop search_μ_loop
 search_least_requires t c κs = search rules
 
-search_answer_requires_2 : (t : ℕ) → search-lts.Need-answer-requires-2 (callees t) (search_at t) search'.Post search_inv_loop search_μ_loop
+search_answer_requires_2 : (t : ℕ) → search-lts.Need-answer-requires-then-t-eq-MOST_STARTS (callees t) (search_at t) search'.Post search_inv_loop search_μ_loop
 search_answer_requires_2 t c κs = search rules
 
-search_returns_3 : (t : ℕ) → search-lts.Need-returns-3 (callees t) (search_at t) search'.Post search_inv_loop search_μ_loop
-search_returns_3 t c = told _ _ _ (solved_wider (PlanOf c.before.before.before.before.before.before.before.before.before.before.before.before.args.p) _ c.before.before.before.before.before.before.before.before.before.narrow.ensures (left_none (PlanOf c.before.before.before.before.before.before.before.before.before.before.before.before.args.p) _ (narrowed t c.before.before.before.before.before.before.before.before.before) (few t c.before.before.before.before.before.before.before.before.before.before.before.before) (here t c.before.before.before.before.before.before) c.before.before.before.loop.invariant c.before.before.least.ensures c.before.if3.true)) c.answer2.ensures
+search_returns_3 : (t : ℕ) → search-lts.Need-returns-then-t-eq-MOST_STARTS (callees t) (search_at t) search'.Post search_inv_loop search_μ_loop
+search_returns_3 t c = told _ _ _ (solved_wider (PlanOf c.args.p) _ c.narrow-d.ensures (left_none (PlanOf c.args.p) _ (narrowed t c.before.before.before.before.before.before.before.before.before) (few t c.before.before.before.before.before.before.before.before.before.before.before.before) (here t c.before.before.before.before.before.before) c.loop-p.invariant c.least-t.ensures c.if-t-eq-MOST_STARTS.true)) c.answer-then-t-eq-MOST_STARTS.ensures
 
-search_rem_s : (t : ℕ) → search-lts.Need-nonzero-rem-s (callees t) (search_at t) search'.Post search_inv_loop search_μ_loop
+search_rem_s : (t : ℕ) → search-lts.Need-nonzero_rem-s (callees t) (search_at t) search'.Post search_inv_loop search_μ_loop
 search_rem_s t c = (here t c.before.before.before.before.before).positive
 
-search_only_class_requires : (t : ℕ) → search-lts.Need-only-class-requires (callees t) (search_at t) search'.Post search_inv_loop search_μ_loop
+search_only_class_requires : (t : ℕ) → search-lts.Need-only_class-requires (callees t) (search_at t) search'.Post search_inv_loop search_μ_loop
 search_only_class_requires t c κs = (here t c.before.before.before.before.before).positive
 
-search_mul_c : (t : ℕ) → search-lts.Need-overflow-mul-c (callees t) (search_at t) search'.Post search_inv_loop search_μ_loop
+search_mul_c : (t : ℕ) → search-lts.Need-offset_bounds-c-i (callees t) (search_at t) search'.Post search_inv_loop search_μ_loop
 search_mul_c t c = omega (arith, op_in t c.before.before.before.before.before.before)
 
-search_array_set_from_c : (t : ℕ) → search-lts.Need-array-set-from-c (callees t) (search_at t) search'.Post search_inv_loop search_μ_loop
+search_array_set_from_c : (t : ℕ) → search-lts.Need-bounds-c-i (callees t) (search_at t) search'.Post search_inv_loop search_μ_loop
 search_array_set_from_c t c = op_in t c.before.before.before.before.before.before
 
-search_search_requires : (t : ℕ) → search-lts.Need-search-requires (callees t) (search_at t) search'.Post search_inv_loop search_μ_loop
-search_search_requires t c κs = let s = c.before.before.before.before.before.before.before.before.before.before.before.before in
-    (omega (arith, s.requires.0, size_le c.before.before.before.before.before.before.before.before.before.narrow.ensures.within, child_less (PlanOf c.before.before.before.before.before.before.before.before.before.before.before.before.args.p) _ (narrowed t c.before.before.before.before.before.before.before.before.before) (few t c.before.before.before.before.before.before.before.before.before.before.before.before) (here t c.before.before.before.before.before.before) c.before.before.before.loop.invariant c.only-class.ensures), s.requires.1)
+search_search_requires : (t : ℕ) → search-lts.Need-search-g-requires (callees t) (search_at t) search'.Post search_inv_loop search_μ_loop
+search_search_requires t c κs = let s = c in
+    (omega (arith, s.requires.0, size_le c.narrow-d.ensures.within, child_less (PlanOf c.args.p) _ (narrowed t c.before.before.before.before.before.before.before.before.before) (few t c.before.before.before.before.before.before.before.before.before.before.before.before) (here t c.before.before.before.before.before.before) c.loop-p.invariant c.only_class.ensures), s.requires.1)
 
-search_returns_4 : (t : ℕ) → search-lts.Need-returns-4 (callees t) (search_at t) search'.Post search_inv_loop search_μ_loop
-search_returns_4 t c = record { end = c.before.search.ensures.end; solved = λ e. true_false (sym c.if4.true ∙ e) }
+search_returns_4 : (t : ℕ) → search-lts.Need-returns-then-g (callees t) (search_at t) search'.Post search_inv_loop search_μ_loop
+search_returns_4 t c = record { end = c.search-g.ensures.end; solved = λ e. true_false (sym c.if-g.true ∙ e) }
 
-search_returns_5 : (t : ℕ) → search-lts.Need-returns-5 (callees t) (search_at t) search'.Post search_inv_loop search_μ_loop
-search_returns_5 t c = record { end = c.before.before.search.ensures.end; solved = λ e. solved_wider (PlanOf c.before.before.before.before.before.before.before.before.before.before.before.before.before.before.before.args.p) _ c.before.before.before.before.before.before.before.before.before.before.before.before.narrow.ensures (child_found (PlanOf c.before.before.before.before.before.before.before.before.before.before.before.before.before.before.before.args.p) _ (narrowed t c.before.before.before.before.before.before.before.before.before.before.before.before) (few t c.before.before.before.before.before.before.before.before.before.before.before.before.before.before.before) (here t c.before.before.before.before.before.before.before.before.before) c.before.before.before.before.before.before.loop.invariant c.before.before.before.only-class.ensures (c.before.before.search.ensures.solved e) c.if5.true) }
+search_returns_5 : (t : ℕ) → search-lts.Need-returns-then-g-2 (callees t) (search_at t) search'.Post search_inv_loop search_μ_loop
+search_returns_5 t c = record { end = c.search-g.ensures.end; solved = λ e. solved_wider (PlanOf c.args.p) _ c.narrow-d.ensures (child_found (PlanOf c.args.p) _ (narrowed t c.before.before.before.before.before.before.before.before.before.before.before.before) (few t c.before.before.before.before.before.before.before.before.before.before.before.before.before.before.before) (here t c.before.before.before.before.before.before.before.before.before) c.loop-p.invariant c.only_class.ensures (c.search-g.ensures.solved e) c.if-g-2.true) }
 
-search_blamed_requires : (t : ℕ) → search-lts.Need-blamed-requires (callees t) (search_at t) search'.Post search_inv_loop search_μ_loop
+search_blamed_requires : (t : ℕ) → search-lts.Need-blamed-after-requires (callees t) (search_at t) search'.Post search_inv_loop search_μ_loop
 search_blamed_requires t c κs = op_in t c.before.before.before.before.before.before.before.before.before.before
 
-search_without_class_requires : (t : ℕ) → search-lts.Need-without-class-requires (callees t) (search_at t) search'.Post search_inv_loop search_μ_loop
+search_without_class_requires : (t : ℕ) → search-lts.Need-without_class-others-requires (callees t) (search_at t) search'.Post search_inv_loop search_μ_loop
 search_without_class_requires t c κs = (here t c.before.before.before.before.before.before.before.before.before.before.before).positive
 
-search_loop_less : (t : ℕ) → search-lts.Need-loop-smaller (callees t) (search_at t) search'.Post search_inv_loop search_μ_loop
-search_loop_less t c = let z = c.before.before.before.before.before.before.before.before.least.ensures in rest_less c.without-class.ensures z (omega (arith, z.within, c.before.before.before.before.before.before.before.if3.false)) refl
+search_loop_less : (t : ℕ) → search-lts.Need-loop-p-smaller (callees t) (search_at t) search'.Post search_inv_loop search_μ_loop
+search_loop_less t c = let z = c.least-t.ensures in rest_less c.without_class-others.ensures z (omega (arith, z.within, c.if-t-eq-MOST_STARTS.false)) refl
 
-search_loop_again : (t : ℕ) → search-lts.Need-loop-preserved (callees t) (search_at t) search'.Post search_inv_loop search_μ_loop
-search_loop_again t c = left_next (PlanOf c.before.before.before.before.before.before.before.before.before.before.before.before.before.before.before.before.before.before.args.p) _ (narrowed t c.before.before.before.before.before.before.before.before.before.before.before.before.before.before.before) (few t c.before.before.before.before.before.before.before.before.before.before.before.before.before.before.before.before.before.before) (here t c.before.before.before.before.before.before.before.before.before.before.before.before) c.before.before.before.before.before.before.before.before.before.loop.invariant c.before.before.before.before.before.before.only-class.ensures (c.before.before.before.before.before.search.ensures.solved c.before.before.before.before.if4.false) c.before.before.before.if5.false c.without-class.ensures
+search_loop_again : (t : ℕ) → search-lts.Need-loop-p-preserved (callees t) (search_at t) search'.Post search_inv_loop search_μ_loop
+search_loop_again t c = left_next (PlanOf c.args.p) _ (narrowed t c.before.before.before.before.before.before.before.before.before.before.before.before.before.before.before) (few t c.before.before.before.before.before.before.before.before.before.before.before.before.before.before.before.before.before.before) (here t c.before.before.before.before.before.before.before.before.before.before.before.before) c.loop-p.invariant c.only_class.ensures (c.search-g.ensures.solved c.if-g.false) c.if-g-2.false c.without_class-others.ensures
 
-pub +search-spec : {M : Type 1} → statement M
-+search-spec = close μ_search λ t. search-lts.spec (callees t)
+pub +search_spec : {M : Type 1} → statement M
++search_spec = close μ_search λ t. search-lts.spec (callees t)
     (search_at t)
     search'.Post
     search_inv_loop

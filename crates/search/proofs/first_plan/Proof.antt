@@ -6,26 +6,26 @@ use Rattle.task.specs.Plan.{PlanOf}
 use Rattle.search.proofs.first_plan.Statement.{statement}
 use Rattle.search.proofs.first_plan.Tie as tie
 
-narrow_requires : tie.Need-narrow-requires
+narrow_requires : tie.Need-narrow-d-requires
 narrow_requires c κs = search rules
 
-eager_requires : tie.Need-eager-requires
+eager_requires : tie.Need-eager-e-requires
 eager_requires c κs = search rules
 
-returns : tie.Need-returns
-returns c = rw c.if1.true (first_wider (PlanOf c.before.before.before.args.p) _ c.before.before.narrow.ensures (c.before.eager.ensures.first c.if1.true))
+returns : tie.Need-returns-then-e
+returns c = rw c.if-e.true (first_wider (PlanOf c.args.p) _ c.narrow-d.ensures (c.eager-e.ensures.first c.if-e.true))
 
-some_plan_requires : tie.Need-some-plan-requires
+some_plan_requires : tie.Need-some_plan-f-requires
 some_plan_requires c κs = search rules
 
-from_plan_requires : tie.Need-from-plan-requires
-from_plan_requires c κs = let z = c.before.before.some-plan.ensures in let y = c.before.if2.true in (c.before.before.before.before.before.before.requires, record { inside = z.inside y; plan = z.plan y })
+from_plan_requires : tie.Need-from_plan-x-requires
+from_plan_requires c κs = let z = c.some_plan-f.ensures in let y = c.if-f.true in (c.requires, record { inside = z.inside y; plan = z.plan y })
 
-returns_2 : tie.Need-returns-2
-returns_2 c = first_wider (PlanOf c.before.before.before.before.before.before.before.args.p) _ c.before.before.before.before.before.before.narrow.ensures c.from-plan.ensures
+returns_2 : tie.Need-returns-then-f
+returns_2 c = first_wider (PlanOf c.args.p) _ c.narrow-d.ensures c.from_plan-x.ensures
 
-returns_3 : tie.Need-returns-3
-returns_3 c = first_wider (PlanOf c.before.before.before.before.before.args.p) _ c.before.before.before.before.narrow.ensures (first_none (PlanOf c.before.before.before.before.before.args.p) _ c.before.some-plan.ensures c.if2.false)
+returns_3 : tie.Need-returns
+returns_3 c = first_wider (PlanOf c.args.p) _ c.narrow-d.ensures (first_none (PlanOf c.args.p) _ c.some_plan-f.ensures c.if-f.false)
 
 pub first_plan_spec : {M : Type 1} → statement M
 first_plan_spec =

@@ -6,43 +6,43 @@ use Rattle.search.specs.StageLaws.{not_denied}
 use Rattle.search.proofs.anchors.anchors_deny.Statement.{statement}
 use Rattle.search.proofs.anchors.anchors_deny.Tie as tie
 
-abbrev invariant_loop : tie.invariant_loop
+abbrev invariant_loop : tie.invariant-loop-turn
 invariant_loop p blame ops done₀ turn₀ done turn = turn ≤ ops
 
-abbrev decreases_loop : tie.decreases_loop
+abbrev decreases_loop : tie.decreases-loop-turn
 decreases_loop p blame ops done₀ turn₀ done turn = ops - turn
 
-loop_holds : tie.Need-loop-init invariant_loop decreases_loop
+loop_holds : tie.Need-loop-turn-init invariant_loop decreases_loop
 loop_holds c = search rules
 
-most_blamed_requires : tie.Need-most-blamed-requires invariant_loop decreases_loop
+most_blamed_requires : tie.Need-most_blamed-i-requires invariant_loop decreases_loop
 most_blamed_requires c κs = search rules
 
-returns : tie.Need-returns invariant_loop decreases_loop
+returns : tie.Need-returns-then-ops-i invariant_loop decreases_loop
 returns c = not_denied
 
-cluster_requires : tie.Need-cluster-requires invariant_loop decreases_loop
+cluster_requires : tie.Need-cluster-cluster-requires invariant_loop decreases_loop
 cluster_requires c κs = search rules
 
-anchor_denies_requires : tie.Need-anchor-denies-requires invariant_loop decreases_loop
+anchor_denies_requires : tie.Need-anchor_denies-requires invariant_loop decreases_loop
 anchor_denies_requires c κs = search rules
 
-returns_2 : tie.Need-returns-2 invariant_loop decreases_loop
-returns_2 c = record { denied = λ _. c.before.anchor-denies.ensures.denied c.if2.true }
+returns_2 : tie.Need-returns-then-anchor_denies invariant_loop decreases_loop
+returns_2 c = record { denied = λ _. c.anchor_denies.ensures.denied c.if-anchor_denies.true }
 
-joined_requires : tie.Need-joined-requires invariant_loop decreases_loop
+joined_requires : tie.Need-joined-next-requires invariant_loop decreases_loop
 joined_requires c κs = search rules
 
-add_turn : tie.Need-overflow-add-turn invariant_loop decreases_loop
+add_turn : tie.Need-overflow_add-turn invariant_loop decreases_loop
 add_turn c = search rules
 
-loop_less : tie.Need-loop-smaller invariant_loop decreases_loop
+loop_less : tie.Need-loop-turn-smaller invariant_loop decreases_loop
 loop_less c = search rules
 
-loop_again : tie.Need-loop-preserved invariant_loop decreases_loop
+loop_again : tie.Need-loop-turn-preserved invariant_loop decreases_loop
 loop_again c = search rules
 
-returns_3 : tie.Need-returns-3 invariant_loop decreases_loop
+returns_3 : tie.Need-returns invariant_loop decreases_loop
 returns_3 c = not_denied
 
 pub anchors_deny_spec : {M : Type 1} → statement M

@@ -5,40 +5,40 @@ use borrow.Author.Rules.{rules}
 use Rattle.search.proofs.anchors.most_blamed.Statement.{statement}
 use Rattle.search.proofs.anchors.most_blamed.Tie as tie
 
-abbrev invariant_loop : tie.invariant_loop
+abbrev invariant_loop : tie.invariant-loop-i
 invariant_loop ops done blame best₀ most₀ i₀ best most i = i ≤ ops
 
-abbrev decreases_loop : tie.decreases_loop
+abbrev decreases_loop : tie.decreases-loop-i
 decreases_loop ops done blame best₀ most₀ i₀ best most i = ops - i
 
-loop_holds : tie.Need-loop-init invariant_loop decreases_loop
+loop_holds : tie.Need-loop-i-init invariant_loop decreases_loop
 loop_holds c = search rules
 
-array_read_asked_before : tie.Need-array-read-asked-before invariant_loop decreases_loop
+array_read_asked_before : tie.Need-bounds-done-i invariant_loop decreases_loop
 array_read_asked_before c = search rules
 
-mul_asked_before : tie.Need-overflow-mul-asked-before invariant_loop decreases_loop
+mul_asked_before : tie.Need-offset_bounds-blame-i invariant_loop decreases_loop
 mul_asked_before c = search rules
 
-array_read_asked_before_2 : tie.Need-array-read-asked-before-2 invariant_loop decreases_loop
+array_read_asked_before_2 : tie.Need-bounds-blame-i invariant_loop decreases_loop
 array_read_asked_before_2 c = search rules
 
-asked_before_requires : tie.Need-asked-before-requires invariant_loop decreases_loop
+asked_before_requires : tie.Need-asked_before-requires invariant_loop decreases_loop
 asked_before_requires c κs = search rules
 
-mul_most : tie.Need-overflow-mul-most invariant_loop decreases_loop
+mul_most : tie.Need-offset_bounds-blame-i-then-asked_before invariant_loop decreases_loop
 mul_most c = search rules
 
-array_read_most : tie.Need-array-read-most invariant_loop decreases_loop
+array_read_most : tie.Need-bounds-blame-i-then-asked_before invariant_loop decreases_loop
 array_read_most c = search rules
 
-add_i : tie.Need-overflow-add-i invariant_loop decreases_loop
+add_i : tie.Need-overflow_add-i invariant_loop decreases_loop
 add_i c = search rules
 
-loop_less : tie.Need-loop-smaller invariant_loop decreases_loop
+loop_less : tie.Need-loop-i-smaller invariant_loop decreases_loop
 loop_less c = search rules
 
-loop_again : tie.Need-loop-preserved invariant_loop decreases_loop
+loop_again : tie.Need-loop-i-preserved invariant_loop decreases_loop
 loop_again c = search rules
 
 returns : tie.Need-returns invariant_loop decreases_loop

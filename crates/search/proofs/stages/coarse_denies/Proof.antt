@@ -5,22 +5,22 @@ use borrow.Author.Rules.{rules}
 use Rattle.search.proofs.stages.coarse_denies.Statement.{statement}
 use Rattle.search.proofs.stages.coarse_denies.Tie as tie
 
-rem_if1 : tie.Need-nonzero-rem-if1
+rem_if1 : tie.Need-nonzero_rem-p
 rem_if1 c = search rules
 
-coarse_requires : tie.Need-coarse-requires
+coarse_requires : tie.Need-coarse-q-requires
 coarse_requires c κs = search rules
 
-search_requires : tie.Need-search-requires
+search_requires : tie.Need-search-f-requires
 search_requires c κs = search rules
 
 none_requires : tie.Need-none-requires
 none_requires c κs = search rules
 
-returns : tie.Need-returns
-returns c = coarse_none c.before.search.ensures c.none.ensures c.before.before.coarse.ensures
+returns : tie.Need-returns-then-p-m-eq0
+returns c = coarse_none c.search-f.ensures c.none.ensures c.coarse-q.ensures
 
-returns_2 : tie.Need-returns-2
+returns_2 : tie.Need-returns
 returns_2 c = not_emptied
 
 pub coarse_denies_spec : {M : Type 1} → statement M
