@@ -5,34 +5,34 @@ use borrow.Author.Rules.{rules}
 use Rattle.test_order.proofs.numbers.Statement.{statement}
 use Rattle.test_order.proofs.numbers.Tie as tie
 
-abbrev invariant_loop : tie.invariant_loop
+abbrev invariant_loop : tie.invariant-loop-i
 invariant_loop s list₀ i₀ list i = i ≤ 24
 
-abbrev decreases_loop : tie.decreases_loop
+abbrev decreases_loop : tie.decreases-loop-i
 decreases_loop s list₀ i₀ list i = 24 - i
 
-loop_holds : tie.Need-loop-init invariant_loop decreases_loop
+loop_holds : tie.Need-loop-i-init invariant_loop decreases_loop
 loop_holds c = search rules
 
-shared_slice_read_number : tie.Need-shared-slice-read-number invariant_loop decreases_loop
+shared_slice_read_number : tie.Need-bounds-s-i invariant_loop decreases_loop
 shared_slice_read_number c = search rules
 
 number_requires : tie.Need-number-requires invariant_loop decreases_loop
 number_requires c κs = search rules
 
-mul_list : tie.Need-overflow-mul-list invariant_loop decreases_loop
+mul_list : tie.Need-offset_bounds-list-i invariant_loop decreases_loop
 mul_list c = search rules
 
-array_write_list : tie.Need-array-write-list invariant_loop decreases_loop
+array_write_list : tie.Need-bounds-list-i invariant_loop decreases_loop
 array_write_list c = search rules
 
-add_i : tie.Need-overflow-add-i invariant_loop decreases_loop
+add_i : tie.Need-overflow_add-i invariant_loop decreases_loop
 add_i c = search rules
 
-loop_less : tie.Need-loop-smaller invariant_loop decreases_loop
+loop_less : tie.Need-loop-i-smaller invariant_loop decreases_loop
 loop_less c = search rules
 
-loop_again : tie.Need-loop-preserved invariant_loop decreases_loop
+loop_again : tie.Need-loop-i-preserved invariant_loop decreases_loop
 loop_again c = search rules
 
 returns : tie.Need-returns invariant_loop decreases_loop

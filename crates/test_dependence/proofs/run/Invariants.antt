@@ -1,0 +1,6 @@
+-- Each piece ends past where it began, so less of the input is left.
+use Rattle.std.proofs.Common.{ℕ, ◌-◌, length}
+use Rattle.test_dependence.proofs.run.Given as goal
+
+abbrev pub decreases-loop-at : goal.decreases-loop-at
+decreases-loop-at g l = length l.input - l.at

@@ -1,0 +1,6 @@
+-- Each line ends past where it began, so less of the input is left.
+use Rattle.std.proofs.Common.{ℕ, ◌-◌, length}
+use Rattle.test_placing.proofs.script.run.Given as goal
+
+abbrev pub decreases-loop-at : goal.decreases-loop-at
+decreases-loop-at g l = length l.s - l.at
