@@ -105,12 +105,12 @@ module _ (r : Rules) (to : (k : ℕ) → k < r.graph.edge_count → (edge_at r.g
   pub passes_agree : {b c : Box} → Agree r.ops b c → (x : Tree) → Known r.ops r.graph.edge_count x
       → Passes r b x → Passes r c x
   unfolding Passes Known
-  passes_agree a (leaf x) k s = agree_leaf a x k s
-  passes_agree a (cut q x y) k s = (
+  passes_agree {b = b} {c = c} a (leaf x) k s = agree_leaf a x k s
+  passes_agree {b = b} {c = c} a (cut q x y) k s = (
     s.0,
     (
-      passes_agree (agree_to a q k.0) x k.1.0 s.1.0,
-      passes_agree (agree_above a q k.0) y k.1.1 s.1.1,
+      passes_agree {b = up_to b q} {c = up_to c q} (agree_to a q k.0) x k.1.0 s.1.0,
+      passes_agree {b = above b q} {c = above c q} (agree_above a q k.0) y k.1.1 s.1.1,
     ),
   )
 

@@ -16,7 +16,7 @@ use Rattle.plan.specs.Entries.{rivals_same, overlap_same}
 use Rattle.denial.specs.Box.{Box, lesser}
 use Rattle.denial.specs.Tree.{Cut, split, seat, Leaf, loop, late, clash, Tree, leaf, cut}
 use Rattle.denial.specs.Tree.{CutKnown, LeafKnown, Known}
-use Rattle.denial.specs.Passes.{Allowed, Clash, two, never, barred, So, Passes}
+use Rattle.denial.specs.Passes.{up_to, above, Allowed, Clash, two, never, barred, So, Passes}
 use Rattle.denial.specs.At.{Never, rules_at, highest_at, root_at}
 use Rattle.denial.specs.Agree.{Agree, passes_agree}
 
@@ -62,7 +62,7 @@ module _ {s s' : Sheet} (e : SameSheet s s') (ok : InRange s) (L : ℕ) where
   unfolding Passes Known
   rules_same b (leaf x) k p = leaf_same b x k p
   rules_same b (cut c x y) k p =
-      (allowed_same c k.0 p.0, (rules_same _ x k.1.0 p.1.0, rules_same _ y k.1.1 p.1.1))
+      (allowed_same c k.0 p.0, (rules_same (up_to b c) x k.1.0 p.1.0, rules_same (above b c) y k.1.1 p.1.1))
 
   root_same : Agree s.op_count (root_at s) (root_at s')
   unfolding root_at highest_at

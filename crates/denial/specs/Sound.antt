@@ -91,8 +91,8 @@ module _ (r : Rules) (to : (k : ℕ) → k < r.graph.edge_count → (edge_at r.g
   unfolding Passes Known CutKnown up_to above
   passes_none b (leaf x) k s p = leaf_sound b x k p s
   passes_none b (cut (split i v) x y) k s p = which (dec_lt v (t i))
-      (λ l. passes_none _ y k.1.1 s.1.1 (in_starts_above i v p k.0 l))
-      (λ l. passes_none _ x k.1.0 s.1.0 (in_starts_to i v p k.0 (omega arith)))
+      (λ l. passes_none (above b (split i v)) y k.1.1 s.1.1 (in_starts_above i v p k.0 l))
+      (λ l. passes_none (up_to b (split i v)) x k.1.0 s.1.0 (in_starts_to i v p k.0 (omega arith)))
   passes_none b (cut (seat i v) x y) k s p = which (dec_lt v (u i))
-      (λ l. passes_none _ y k.1.1 s.1.1 (in_instances_above i v p k.0 l))
-      (λ l. passes_none _ x k.1.0 s.1.0 (in_instances_to i v p k.0 (omega arith)))
+      (λ l. passes_none (above b (seat i v)) y k.1.1 s.1.1 (in_instances_above i v p k.0 l))
+      (λ l. passes_none (up_to b (seat i v)) x k.1.0 s.1.0 (in_instances_to i v p k.0 (omega arith)))

@@ -3,6 +3,8 @@
 // first operation that breaks a rule, are for services that have put them: both ask for a sheet in range and an
 // interval up to the cap. Callers today: of `holds` `is_plan`, of `first_broken` `judge::judge` and its line at fault,
 // each once `questions::asked` has answered 0.
+#![tactic(auto)]
+
 ghost use Rattle.laws.specs.Entry.{vec};
 ghost use Rattle.laws.specs.Says.{Says};
 ghost use Rattle.sheet.specs.Sheet.{InRange, Interval};
@@ -20,7 +22,7 @@ use sizes::MOST_OPERATIONS;
 
 // The answer of a check: 0 or a refusal, and with 0 whether it is a plan.
 #[repr(C)]
-#[derive(Drop)]
+#[derive(Clone, Copy)]
 pub struct Checked {
     pub answer: usize,
     pub plan: bool,

@@ -4,65 +4,64 @@ use mathlib.Core.Path.{◌≡◌, refl}
 use Prim.Native.Nat.{◌-◌, ◌≤◌}
 use native.Mathlib.Omega.{arith}
 use Rattle.laws.specs.Entry.{vec}
-use Rattle.laws.specs.Tests.{denied, passed}
 use Rattle.sheet.specs.Facts.{ops_most}
 use Rattle.verify.specs.Broken.{PlanUpTo, none, first}
 use Rattle.verify.specs.BrokenLaws.{up_to_none, up_to_plan}
 use Rattle.verify.proofs.broken.first_broken.Statement.{statement}
 use Rattle.verify.proofs.broken.first_broken.Tie as tie
 
-abbrev invariant_loop : tie.invariant_loop
+abbrev invariant_loop : tie.invariant-loop-i
 invariant_loop sheet interval starts instances count i₀ i =
     (i ≤ count) × PlanUpTo sheet interval (vec starts) (vec instances) i
 
-abbrev decreases_loop : tie.decreases_loop
+abbrev decreases_loop : tie.decreases-loop-i
 decreases_loop sheet interval starts instances count i₀ i = count - i
 
-kept_up_to_requires : tie.Need-kept-up-to-requires invariant_loop decreases_loop
+kept_up_to_requires : tie.Need-kept_up_to-requires invariant_loop decreases_loop
 kept_up_to_requires c κs = (c.requires.0, c.requires.1, ops_most c.requires.0)
 
-returns : tie.Need-returns invariant_loop decreases_loop
+returns : tie.Need-returns-then-kept_up_to invariant_loop decreases_loop
 returns c =
-    let s = c.before in
-    none refl (up_to_plan s.before.requires.0 (s.kept-up-to.ensures.yes c.if1.true))
+    let s = c in
+    none refl (up_to_plan s.requires.0 (s.kept_up_to.ensures.yes c.if-kept_up_to.true))
 
-loop_holds : tie.Need-loop-init invariant_loop decreases_loop
+loop_holds : tie.Need-loop-i-init invariant_loop decreases_loop
 loop_holds c = (omega arith, up_to_none)
 
-add_next : tie.Need-overflow-add-next invariant_loop decreases_loop
-add_next c = omega (arith, ops_most c.before.before.before.before.requires.0)
+add_next : tie.Need-overflow_add-next invariant_loop decreases_loop
+add_next c = omega (arith, ops_most c.requires.0)
 
-kept_up_to_requires_2 : tie.Need-kept-up-to-requires-2 invariant_loop decreases_loop
+kept_up_to_requires_2 : tie.Need-kept_up_to-requires-in-loop-i invariant_loop decreases_loop
 kept_up_to_requires_2 c κs =
-    let p = c.before.before.before.before.requires in
+    let p = c.requires in
     (p.0, p.1, omega (arith, ops_most p.0))
 
-returns_2 : tie.Need-returns-2 invariant_loop decreases_loop
+returns_2 : tie.Need-returns-then-not-kept_up_to invariant_loop decreases_loop
 returns_2 c =
-    let l = c.before.before in
+    let l = c in
     first (record {
-      operation = l.loop-test.true;
-      before = l.before.loop.invariant.1;
-      with = denied c.before.kept-up-to2.ensures c.if2.true;
+      operation = l.loop-i-test.true;
+      before = l.loop-i.invariant.1;
+      with = c.kept_up_to-in-loop-i.ensures.no c.if-not-kept_up_to.true;
     })
 
-add_i : tie.Need-overflow-add-i invariant_loop decreases_loop
-add_i c = omega (arith, ops_most c.before.before.before.before.before.before.requires.0)
+add_i : tie.Need-overflow_step-i invariant_loop decreases_loop
+add_i c = omega (arith, ops_most c.requires.0)
 
-loop_less : tie.Need-loop-smaller invariant_loop decreases_loop
+loop_less : tie.Need-loop-i-smaller invariant_loop decreases_loop
 loop_less c = omega arith
 
-loop_again : tie.Need-loop-preserved invariant_loop decreases_loop
+loop_again : tie.Need-loop-i-preserved invariant_loop decreases_loop
 loop_again c = (
-  omega (arith, c.before.before.loop-test.true),
-  passed c.before.kept-up-to2.ensures c.if2.false,
+  omega (arith, c.loop-i-test.true),
+  c.kept_up_to-in-loop-i.ensures.yes c.if-not-kept_up_to.false,
 )
 
-returns_3 : tie.Need-returns-3 invariant_loop decreases_loop
+returns_3 : tie.Need-returns invariant_loop decreases_loop
 returns_3 c =
-    let s = c.before.before.before.before in
-    let e : c.before.loop.i ≡ s.args.sheet.op_count = omega (arith, c.loop-test.false) in
-    none refl (up_to_plan s.requires.0 (rw e at c.before.loop.invariant.1))
+    let s = c in
+    let e : c.loop-i.i ≡ s.args.sheet.op_count = omega (arith, c.loop-i-test.false) in
+    none refl (up_to_plan s.requires.0 (rw e at c.loop-i.invariant.1))
 
 pub first_broken_spec : {M : Type 1} → statement M
 first_broken_spec =

@@ -8,17 +8,17 @@ use Rattle.verify.specs.Parts.{le_says}
 use Rattle.verify.proofs.edges.met.Statement.{statement}
 use Rattle.verify.proofs.edges.met.Tie as tie
 
-cast_result : tie.Need-overflow-cast-result
+cast_result : tie.Need-overflow_cast-result
 cast_result c = search rules
 
-add_result : tie.Need-overflow-add-result
+add_result : tie.Need-overflow_add-result
 add_result c =
     let a = c.args in
     let s = c.requires.2 in
     rw (cast_kept a.from (omega arith), kept c.ranges.total)
     (fits_show (omega (arith, zed, s.low, s.high, sum (pos a.from) a.total)) (omega (arith, zed, s.low, s.high, sum (pos a.from) a.total)))
 
-cast_result_2 : tie.Need-overflow-cast-result-2
+cast_result_2 : tie.Need-overflow_cast-result-2
 cast_result_2 c = search rules
 
 returns : tie.Need-returns
