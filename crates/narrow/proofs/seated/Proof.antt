@@ -9,13 +9,13 @@ use Rattle.narrow.proofs.seated.Tie as tie
 stays_busy_requires : tie.Need-stays_busy-requires
 stays_busy_requires c κs = search rules
 
-hopeless_requires : tie.Need-hopeless-requires
+hopeless_requires : tie.Need-hopeless-hopeless-requires
 hopeless_requires c κs = search rules
 
 returns : tie.Need-returns-then-hopeless
 returns c =
     let s = c.before.before.before.before.before.before in
-    keeps_none (PlanOf s.args.p) _ s.requires.ops_ok (c.before.before.hopeless.ensures.yes c.before.if-hopeless.true)
+    keeps_none (PlanOf s.args.p) _ s.requires.ops_ok (c.before.before.hopeless-hopeless.ensures.yes (search rules))
 
 returns_2 : tie.Need-returns-else-hopeless
 returns_2 c = search rules
