@@ -224,3 +224,47 @@ def turn(given, text, aliases, other):
             continue
         result.append(other(chunk))
     return "".join(result)
+
+
+def without_settled(given, text, aliases):
+    """Goals that today's check settles by itself go, where that leaves as many as it asks for."""
+    paths = Paths(given)
+    alias = "|".join(re.escape(it) for it in aliases)
+    declared = re.findall(r"(?m)^([\w'+-]+)\s*:\s*(?:\([^)]*\)\s*→\s*)*(?:%s)\.Needs?-(%s)" % (alias, PART), text)
+    gone = [name for name, need in declared if not paths.place_of_goal(need)]
+    if not gone or len(declared) - len(gone) != len(given["needs"]):
+        return text
+    chunks = re.split(r"(?m)^(?=[^\s\-])", text)
+    kept = []
+    for chunk in chunks:
+        m = re.match(r"([\w'+-]+)\b", chunk)
+        if m and m[1] in gone:
+            tail = chunk[len(chunk.rstrip()):]
+            comment = re.search(r"\n\n(?:--.*\n)+$", chunk)
+            kept.append(comment[0].lstrip("\n") if comment else "")
+            continue
+        kept.append(chunk)
+    text = "".join(kept)
+    # and from the arguments of `spec`, the last declaration
+    at = text.rfind("spec")
+    head, tail = text[:at], text[at:]
+    for name in gone:
+        tail = re.sub(r"(?<![\w'.+-])\s*\b%s\b(?![\w'-])" % re.escape(name), "", tail, count=1)
+    return head + tail
+
+
+def without_constants(given, text):
+    """A constant that a loop lent is no longer one of the loop's variables."""
+    for (loop, names), changed in zip(given["loops"], given["changed"]):
+        want = len(names) + sum(changed)
+        for word in ("invariant", "decreases"):
+            def binders(m):
+                all = m[2].split()
+                if len(all) > want:
+                    spare = [it for it in all if re.fullmatch(r"t\d+₀?", it)]
+                    if len(all) - len(spare) == want:
+                        return m[1] + " ".join(it for it in all if it not in spare) + m[3]
+                return m[0]
+
+            text = re.sub(r"(?m)^(%s[-_]%s )((?:[\w₀']+ ?)+)( =)" % (word, re.escape(loop[0]).replace("\\-", "[-_]")), binders, text)
+    return text

@@ -170,7 +170,8 @@ def retie(home, listed):
         # In a cycle of calls a file has the goals of each function, by a name of its own.
         use = r"(?m)^use \S+\.Lts-%s as (\S+)" % re.escape(m[3] or "-")
         aliases = re.findall(use, old)
-        text = goal_paths.turn(given, old, ["tie", *aliases], Names(given).by_name)
+        text = goal_paths.without_constants(given, goal_paths.without_settled(given, old, ["tie", *aliases]))
+        text = goal_paths.turn(given, text, ["tie", *aliases], Names(given).by_name)
         text = spec_named(untested(Names(given).turn(text, aliases)), folder[-1])
         if text != old:
             write(path, text)
@@ -235,6 +236,23 @@ def mend_ways(home, said):
     return changed
 
 
+def mend_denials(home, said):
+    """After `if !f.x` the branch still says what the denial is, so what `untested` took away comes back."""
+    changed = False
+    for m in re.finditer(r"(?m)^\.?/?(\S+\.antt):(\d+):(\d+): error: (.*(?:\n  .*)*)", said):
+        if not re.search(r"Bool\.not ", m[4]) or not re.search(r"(?:≡|◌≡◌).*expected type|expected type", m[4]):
+            continue
+        path = os.path.join(home, m[1])
+        lines = read(path).split("\n")
+        row, column = int(m[2]) - 1, int(m[3]) - 1
+        it = re.match(r"[A-Za-z][\w']*(?:\.[\w'-]+)*\.(true|false)(?![\w-])", lines[row][column:])
+        if it and not lines[row][:column].endswith("_ "):
+            lines[row] = lines[row][:column] + "(not-%s _ %s)" % (it[1], it[0]) + lines[row][column + len(it[0]):]
+            write(path, "\n".join(lines))
+            changed = True
+    return changed
+
+
 def port(name):
     home = os.path.join(ROOT, "crates", name)
     kept = os.path.join(NAMES, name)
@@ -250,7 +268,7 @@ def port(name):
     rt(home, "check")  # the first check after a listing may still read the old names
     said = rt(home, "check")
     for _ in range(8):
-        if not (mend_fields(home, said) | mend_ways(home, said)):
+        if not (mend_fields(home, said) | mend_ways(home, said) | mend_denials(home, said)):
             break
         said = rt(home, "check")
     return said

@@ -1,5 +1,7 @@
 // Reads a plan's lines as leastplan prints them: `answer=0`, `interval=N`, then lines `at=t,u`, and nothing more. It
 // knows no sheet: whether there is a line for each operation, and whether the plan keeps the rules, is asked elsewhere.
+#![tactic(auto)]
+
 ghost use Rattle.std.specs.Prelude.{◌≡◌, [], drop};
 ghost use Rattle.sizes.specs.Sizes.{most_operations};
 ghost use Rattle.plan_lines.specs.Lines.{plan_of, places_from, seen, no_lines, LinesFit};
@@ -16,7 +18,7 @@ pub const MOST_LINES: usize = FIRST_AT - 1 + MOST_OPERATIONS;
 // The interval that a plan's lines name, and its starts and instances, one of each per line `at=`; 0 past them. Of
 // bytes that are no such lines `fault` is the number, from 1, of the first line that is not as it must be or is past
 // the most, and everything else is 0 (and `ok` false). Of a plan `fault` is 0.
-#[derive(Drop)]
+#[derive(Clone, Copy)]
 pub struct PlanLines {
     pub ok: bool,
     pub fault: usize,

@@ -1,5 +1,7 @@
 // Reads a script on a placing table: lines `offer=op,start`, `book=op,start,instance` and `place=op,start`, in any
 // order, and nothing more. It knows no sheet and no table: what a step does is told elsewhere.
+#![tactic(auto)]
+
 ghost use Rattle.std.specs.Prelude.{◌≡◌, drop};
 ghost use Rattle.table_script.specs.Script.{step_of, seen, within, script_of, fault_of};
 
@@ -10,7 +12,7 @@ pub const MOST_STEPS: usize = 1024;
 
 // One step of a script: an offer asked for (operation, start), an offer booked (operation, start, instance), an
 // operation placed (operation, start).
-#[derive(Drop)]
+#[derive(Clone, Copy)]
 pub enum Step {
     Offer(usize, usize),
     Book(usize, usize, usize),
@@ -18,7 +20,7 @@ pub enum Step {
 }
 
 // A step and the place after its line, or that the line is none.
-#[derive(Drop)]
+#[derive(Clone, Copy)]
 pub enum StepLine {
     Read(Step, usize),
     Malformed,

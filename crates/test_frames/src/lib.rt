@@ -1,12 +1,14 @@
 // Splits one input into pieces, so that a program can be run on many: each piece stands after a line `bytes=N`, and is
 // the N bytes after that line.
+#![tactic(auto)]
+
 ghost use Rattle.std.specs.Prelude.{◌≡◌, drop};
 ghost use Rattle.test_frames.specs.Piece.{piece_of, seen_piece, FrameFits};
 
 use scan::{NO_MINUS, read_line};
 
 // A piece: the bytes from `start` up to, not including, `end`.
-#[derive(Drop)]
+#[derive(Clone, Copy)]
 pub struct Frame {
     pub ok: bool,
     pub start: usize,

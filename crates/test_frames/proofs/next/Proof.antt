@@ -19,91 +19,88 @@ use Rattle.test_frames.specs.PieceLaws.{nowhere, no_line, line_read, negative, t
 use Rattle.test_frames.proofs.next.Statement.{statement}
 use Rattle.test_frames.proofs.next.Tie as tie
 
-abbrev size : tie.After-read-line → ℤ
-size c = value_at c.read-line.result 0
+abbrev size : tie.After-read_line-line → ℤ
+size c = value_at c.read_line-line.result 0
 
-fits : (c : tie.After-read-line) → SFits w32 (size c)
-fits c = four_digits_lem (size c) (c.read-line.ensures.1.small 0)
+fits : (c : tie.After-read_line-line) → SFits w32 (size c)
+fits c = four_digits_lem (size c) (c.read_line-line.ensures.1.small 0)
 
-not_negative : (c : tie.Else2) → T (non_neg (size c.before.before.before.before.before))
+not_negative : (c : tie.Else-size-lt0) → T (non_neg (size c.before.before.before.before.before))
 not_negative c =
     let r = c.before.before.before.before.before in
-    yes_non_neg {z = size r} (lt_z_false _ _ (rw (kept (fits r)) at c.if2.false))
+    yes_non_neg {z = size r} (lt_z_false _ _ (rw (kept (fits r)) at c.if-size-lt0.false))
 
 -- the piece that the line's number asks for
-asked : (c : tie.Else1) →
+asked : (c : tie.Else-not-line) →
     let r = c.before.before in
-    let a = r.before.before.before.args in
-    sized (size r) (drop r.read-line.result.next a.s.now) ≡ piece_of (drop a.at a.s.now)
+    let a = r.args in
+    sized (size r) (drop r.read_line-line.result.next a.s.now) ≡ piece_of (drop a.at a.s.now)
 asked c =
-    let r = c.before.before in
-    let a = r.before.before.before.args in
-    line_read a.s.now a.at r.read-line.result r.read-line.ensures.0 (not-false _ c.if1.false)
+    let r = c in
+    let a = r.args in
+    line_read a.s.now a.at r.read_line-line.result r.read_line-line.ensures.0 (not-false _ c.if-not-line.false)
 
 -- the same, of a number that is not negative
-counted : (c : tie.Else2) →
+counted : (c : tie.Else-size-lt0) →
     let r = c.before.before.before.before.before in
-    let a = r.before.before.before.args in
-    sized (pos (nat_abs (size r))) (drop r.read-line.result.next a.s.now) ≡ piece_of (drop a.at a.s.now)
+    let a = r.args in
+    sized (pos (nat_abs (size r))) (drop r.read_line-line.result.next a.s.now) ≡ piece_of (drop a.at a.s.now)
 counted c =
     let r = c.before.before.before.before.before in
-    let a = r.before.before.before.args in
-    ap (λ (z : ℤ). sized z (drop r.read-line.result.next a.s.now)) (pos-nat_abs (size r) (not_negative c)) ∙ asked c.before.before.before
+    let a = r.args in
+    ap (λ (z : ℤ). sized z (drop r.read_line-line.result.next a.s.now)) (pos-nat_abs (size r) (not_negative c)) ∙ asked c.before.before.before
 
-slice_aggregate_read_line : tie.Need-slice-aggregate-read-line
-slice_aggregate_read_line c = search rules
-
-read_line_requires : tie.Need-read-line-requires
+read_line_requires : tie.Need-read_line-line-requires
 read_line_requires c κs = search rules
 
-returns : tie.Need-returns
+returns : tie.Need-returns-then-not-line
 unfolding seen_piece
 returns c =
-    let r = c.before.before in
-    let a = r.before.before.before.args in
-    (no_line a.s.now a.at r.read-line.result r.read-line.ensures.0 (not-true _ c.if1.true), nowhere _)
+    let r = c in
+    let a = r.args in
+    (no_line a.s.now a.at r.read_line-line.result r.read_line-line.ensures.0 (not-true _ c.if-not-line.true), nowhere _)
 
-array_copy_out_size : tie.Need-array-copy-out-size
+array_copy_out_size : tie.Need-bounds-values-0
 array_copy_out_size c = search rules
 
-returns_2 : tie.Need-returns-2
+returns_2 : tie.Need-returns-then-size-lt0
 unfolding seen_piece
 returns_2 c =
     let r = c.before.before.before.before.before in
-    let a = r.before.before.before.args in
-    (negative (size r) _ (lt_z_true _ _ (rw (kept (fits r)) at c.if2.true)) ∙ asked c.before.before.before, nowhere _)
+    let a = r.args in
+    (negative (size r) _ (lt_z_true _ _ (rw (kept (fits r)) at c.if-size-lt0.true)) ∙ asked c.before.before.before, nowhere _)
 
-sub_left : tie.Need-overflow-sub-left
+sub_left : tie.Need-overflow_sub-left
 sub_left c = search rules
 
-cast_if3 : tie.Need-overflow-cast-if3
+cast_if3 : tie.Need-overflow_cast-size
 cast_if3 c =
     let r = c.before.before.before.before.before in
     rw (kept (fits r)) (not_negative c, Fits-nat_abs {w = w32} tt (fits r))
 
-returns_3 : tie.Need-returns-3
+returns_3 : tie.Need-returns-then-left-size
 unfolding seen_piece
 returns_3 c =
     let r = c.before.before.before.before.before.before in
-    let a = r.before.before.before.args in
-    let few = rw (kept (fits r)) at c.if3.true in
-    (too_few (nat_abs (size r)) _ (omega (arith, length-drop r.read-line.result.next a.s.now, few)) ∙ counted c.before, nowhere _)
+    let a = r.args in
+    let few = rw (kept (fits r)) at c.if-left-size.true in
+    (too_few (nat_abs (size r)) _ (omega (arith, length-drop r.read_line-line.result.next a.s.now, few)) ∙ counted c.before, nowhere _)
 
-cast_t16 : tie.Need-overflow-cast-t16
+cast_t16 : tie.Need-overflow_cast-result
 cast_t16 c = cast_if3 c.before
 
-add_t17 : tie.Need-overflow-add-t17
+add_t17 : tie.Need-overflow_add-result
 add_t17 c = search rules
 
-returns_4 : tie.Need-returns-4
+returns_4 : tie.Need-returns
 unfolding seen_piece
 returns_4 c =
     let r = c.before.before.before.before.before.before in
-    let a = r.before.before.before.args in
-    let next = r.read-line.ensures.1.next in
-    let room = rw (kept (fits r)) at c.if3.false in
+    let a = r.args in
+    let next = r.read_line-line.ensures.1.next in
+    let room = rw (kept (fits r)) at c.if-left-size.false in
     rw (kept (fits r)) (
-      enough r.read-line.result.next (nat_abs (size r)) a.s.now (omega (arith, next, room)) ∙ counted c.before,
+      enough r.read_line-line.result.next (nat_abs (size r)) a.s.now (omega (arith, next, room)) ∙ counted c.before,
       record { start = omega arith; end = omega (arith, next, room); refused = λ e. true_false e },
     )
 
@@ -111,7 +108,6 @@ pub next_spec : {M : Type 1} → statement M
 next_spec =
     tie.close
     (tie.spec
-    slice_aggregate_read_line
     read_line_requires
     returns
     array_copy_out_size

@@ -7,34 +7,34 @@ use Rattle.words.specs.Laws.{no_line, more_after, number, whole}
 use Rattle.words.proofs.number_after.Statement.{statement}
 use Rattle.words.proofs.number_after.Tie as tie
 
-read_line_requires : tie.Need-read-line-requires
+read_line_requires : tie.Need-read_line-read-requires
 read_line_requires c κs = search rules
 
-returns : tie.Need-returns
+returns : tie.Need-returns-then-not-read
 returns c =
-    let r = c.before.before.read-line in
-    sym (no_line _ _ r.result r.ensures.0 r.ensures.1 (not-true _ c.if1.true))
+    let r = c.read_line-read in
+    sym (no_line _ _ r.result r.ensures.0 r.ensures.1 (not-true _ c.if-not-read.true))
 
-returns_2 : tie.Need-returns-2
+returns_2 : tie.Need-returns-then-read-line
 returns_2 c =
-    let e = c.before.before in
-    let r = e.before.before.read-line in
-    sym (more_after _ _ r.result r.ensures.0 r.ensures.1 (not-false _ e.if1.false) c.if2.true)
+    let e = c in
+    let r = e.read_line-read in
+    sym (more_after _ _ r.result r.ensures.0 r.ensures.1 (not-false _ e.if-not-read.false) c.if-read-line.true)
 
-array_copy_out_t9 : tie.Need-array-copy-out-t9
+array_copy_out_t9 : tie.Need-bounds-values-0
 array_copy_out_t9 c = search rules
 
-cast_t6 : tie.Need-overflow-cast-t6
+cast_t6 : tie.Need-overflow_cast-result
 cast_t6 c =
-    let e = c.before.before.before.before in
-    let r = e.before.before.read-line in
-    whole _ _ r.result r.ensures.0 r.ensures.1 (not-false _ e.if1.false)
+    let e = c in
+    let r = e.read_line-read in
+    whole _ _ r.result r.ensures.0 r.ensures.1 (not-false _ e.if-not-read.false)
 
-returns_3 : tie.Need-returns-3
+returns_3 : tie.Need-returns
 returns_3 c =
-    let e = c.before.before.before.before in
-    let r = e.before.before.read-line in
-    sym (number _ _ r.result r.ensures.0 r.ensures.1 (not-false _ e.if1.false) c.before.before.if2.false)
+    let e = c in
+    let r = e.read_line-read in
+    sym (number _ _ r.result r.ensures.0 r.ensures.1 (not-false _ e.if-not-read.false) c.if-read-line.false)
 
 pub number_after_spec : {M : Type 1} → statement M
 number_after_spec =

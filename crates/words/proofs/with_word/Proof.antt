@@ -7,70 +7,62 @@ use borrow.Author.Rules.{rules}
 use Rattle.words.proofs.with_word.Statement.{statement}
 use Rattle.words.proofs.with_word.Tie as tie
 
-slice_aggregate_number_after : tie.Need-slice-aggregate-number-after
-slice_aggregate_number_after c = search rules
-
-number_after_requires : tie.Need-number-after-requires
+number_after_requires : tie.Need-number_after-requires
 number_after_requires c κs = search rules
 
-enum_known_n : tie.Need-enum-known-n
+enum_known_n : tie.Need-enum_known-n
 enum_known_n c = search rules
 
-once_more_requires : tie.Need-once-more-requires
+once_more_requires : tie.Need-once_more-requires
 once_more_requires c κs = search rules
 
-returns : tie.Need-returns
+returns : tie.Need-returns-in-Number
 returns c =
-    let k = c.before.before in
-    let m = k.before.before in
-    let a = m.before.before.before.args in
-    ap (λ (times : ℕ). record { intervals = times; interval = k.n.given.0.0; pairs = a.given.pairs; pair = a.given.pair; strange = a.given.strange }) c.once_more.ensures
-    ∙ sym (interval_word _ _ _ (sym m.number-after.ensures ∙ k.n.given.1))
+    let k = c in
+    let m = k in
+    let a = m.args in
+    ap (λ (times : ℕ). record { intervals = times; interval = k.in-Number.n; pairs = a.given.pairs; pair = a.given.pair; strange = a.given.strange }) c.once_more.ensures
+    ∙ sym (interval_word _ _ _ (sym m.number_after.ensures ∙ k.in-Number.is))
 
-enum_told : tie.Need-enum-told
+enum_told : tie.Need-enum_told-1
 enum_told c = search rules
 
-slice_aggregate_number_after_2 : tie.Need-slice-aggregate-number-after-2
-slice_aggregate_number_after_2 c = search rules
-
-number_after_requires_2 : tie.Need-number-after-requires-2
+number_after_requires_2 : tie.Need-number_after-requires-2
 number_after_requires_2 c κs = search rules
 
-enum_known_n_2 : tie.Need-enum-known-n-2
+enum_known_n_2 : tie.Need-enum_known-n-in-Number-number_after-2
 enum_known_n_2 c = search rules
 
-once_more_requires_2 : tie.Need-once-more-requires-2
+once_more_requires_2 : tie.Need-once_more-requires-in-Number-number_after
 once_more_requires_2 c κs = search rules
 
-returns_2 : tie.Need-returns-2
+returns_2 : tie.Need-returns-in-Number-number_after
 returns_2 c =
-    let k = c.before.before in
-    let m = k.before.before in
-    let o = m.before.before in
-    let a = o.before.before.before.before.before.args in
-    ap (λ (times : ℕ). record { intervals = a.given.intervals; interval = a.given.interval; pairs = times; pair = k.n2.given.0.0; strange = a.given.strange }) c.once-more2.ensures
-    ∙ sym (pair_word _ _ (sym o.before.before.number-after.ensures ∙ o.enum_told.given.1) _ (sym m.number-after2.ensures ∙ k.n2.given.1))
+    let k = c in
+    let m = k in
+    let o = m in
+    let a = o.args in
+    ap (λ (times : ℕ). record { intervals = a.given.intervals; interval = a.given.interval; pairs = times; pair = k.in-Number-number_after.n; strange = a.given.strange }) c.once_more-in-Number-number_after.ensures
+    ∙ sym (pair_word _ _ (sym o.number_after.ensures ∙ o.in_default.is) _ (sym m.number_after-2.ensures ∙ k.in-Number-number_after.is))
 
-enum_told_2 : tie.Need-enum-told-2
+enum_told_2 : tie.Need-enum_told-in_default-number_after
 enum_told_2 c = search rules
 
-returns_3 : tie.Need-returns-3
+returns_3 : tie.Need-returns
 returns_3 c =
-    let m = c.before.before in
-    let o = m.before.before in
-    sym (other_word _ _ (sym o.before.before.number-after.ensures ∙ o.enum_told.given.1) (sym m.number-after2.ensures ∙ c.enum-told2.given.1))
+    let m = c in
+    let o = m in
+    sym (other_word _ _ (sym o.number_after.ensures ∙ o.in_default.is) (sym m.number_after-2.ensures ∙ c.in_default-number_after.is))
 
 pub with_word_spec : {M : Type 1} → statement M
 with_word_spec =
     tie.close
     (tie.spec
-    slice_aggregate_number_after
     number_after_requires
     enum_known_n
     once_more_requires
     returns
     enum_told
-    slice_aggregate_number_after_2
     number_after_requires_2
     enum_known_n_2
     once_more_requires_2
