@@ -1,6 +1,8 @@
 // Reads one line of a loop sheet: question 2, then what the line's entry answers. specs/Kinds.antt has the kinds of
 // lines. A crate of its own for the check's time. Callers: `sheet_sections` and `reader`, which begin at the first byte
 // and go on where a line ended, so that each place is within the bytes.
+#![tactic(auto)]
+
 ghost use Rattle.std.specs.Prelude.{◌≤◌, drop, length};
 ghost use Rattle.sheet_lines.specs.Found.{line_from};
 ghost use Rattle.sheet_lines.specs.Kinds.{number_kind, type_kind, op_kind, edge_kind};
@@ -16,7 +18,7 @@ pub const MALFORMED: usize = 2;
 // The place of the delay, which may carry a minus, in its line.
 const DELAY_PLACE: usize = 2;
 
-#[derive(Drop)]
+#[derive(Clone, Copy)]
 pub struct NumberRead {
     pub answer: usize,
     pub value: usize,
@@ -53,7 +55,7 @@ pub fn read_number(s: &[u8], at: usize, key: &[u8], field: usize) -> NumberRead
     }
 }
 
-#[derive(Drop)]
+#[derive(Clone, Copy)]
 pub struct TypeRead {
     pub answer: usize,
     pub entry: ResourceType,
@@ -97,7 +99,7 @@ pub fn read_type(s: &[u8], at: usize) -> TypeRead
     }
 }
 
-#[derive(Drop)]
+#[derive(Clone, Copy)]
 pub struct OpRead {
     pub answer: usize,
     pub entry: Operation,
@@ -137,7 +139,7 @@ pub fn read_op(s: &[u8], at: usize, types: usize, horizon: usize) -> OpRead
     }
 }
 
-#[derive(Drop)]
+#[derive(Clone, Copy)]
 pub struct EdgeRead {
     pub answer: usize,
     pub entry: Edge,

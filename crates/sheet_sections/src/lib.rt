@@ -1,5 +1,7 @@
 // Reads a section of a loop sheet: the line with a count, then as many lines. sheet_lines/specs/Found.antt says what is
 // found. A crate of its own for the check's time. Caller: `reader`, with a place within the bytes, as for `sheet_lines`.
+#![tactic(auto)]
+
 ghost use Rattle.std.specs.Prelude.{[], ◌≤◌, drop, length};
 ghost use Rattle.sizes.specs.Sizes.{most_types, most_operations, most_edges};
 ghost use Rattle.dependence.specs.Graph.{no_edge};
@@ -13,7 +15,7 @@ use sheet::{EDGES, NO_EDGE, NO_OPERATION, NO_TYPE, OPERATIONS, Operation, Resour
 use sheet_lines::{read_edge, read_number, read_op, read_type};
 use sizes::{MOST_EDGES, MOST_OPERATIONS, MOST_TYPES};
 
-#[derive(Drop)]
+#[derive(Clone, Copy)]
 pub struct TypesRead {
     pub answer: usize,
     pub count: usize,
@@ -70,7 +72,7 @@ pub fn read_types(s: &[u8], at: usize) -> TypesRead
     type_lines(s, count.next, count.value)
 }
 
-#[derive(Drop)]
+#[derive(Clone, Copy)]
 pub struct OpsRead {
     pub answer: usize,
     pub count: usize,
@@ -127,7 +129,7 @@ pub fn read_ops(s: &[u8], at: usize, types: usize, horizon: usize) -> OpsRead
     op_lines(s, count.next, count.value, types, horizon)
 }
 
-#[derive(Drop)]
+#[derive(Clone, Copy)]
 pub struct EdgesRead {
     pub answer: usize,
     pub count: usize,

@@ -14,39 +14,39 @@ use Rattle.sheet_lines.proofs.read_number.Statement.{statement}
 use Rattle.sheet_lines.proofs.read_number.Tie as tie
 
 -- the number as the kind makes it
-made : (c : tie.After-read-line) → not c.read-line.result.ok ≡ false → nat_abs (to_z w32 (of_z w32 (get_or c.read-line.result.values 0 (pos 0)))) ≡ (number_kind c.before.before.before.args.key.now c.before.before.before.args.field).make (take 1 c.read-line.result.values)
-made c t = ap nat_abs (value_at_lem (number_kind c.before.before.before.args.key.now c.before.before.before.args.field) _ c.before.before.before.args.at _ c.read-line.ensures.0 c.read-line.ensures.1 t 0 (omega arith))
+made : (c : tie.After-read_line-line) → not c.read_line-line.result.ok ≡ false → nat_abs (to_z w32 (of_z w32 (get_or c.read_line-line.result.values 0 (pos 0)))) ≡ (number_kind c.args.key.now c.args.field).make (take 1 c.read_line-line.result.values)
+made c t = ap nat_abs (value_at_lem (number_kind c.args.key.now c.args.field) _ c.args.at _ c.read_line-line.ensures.0 c.read_line-line.ensures.1 t 0 (omega arith))
 
-read_line_requires : tie.Need-read-line-requires
+read_line_requires : tie.Need-read_line-line-requires
 read_line_requires c κs = search rules
 
-returns : tie.Need-returns
+returns : tie.Need-returns-then-not-line
 returns c =
-    let r = c.before.before in
-    malformed (number_kind r.before.before.before.args.key.now r.before.before.before.args.field) _ r.before.before.before.args.at _ r.read-line.ensures.0 r.read-line.ensures.1 r.before.before.before.requires 0 c.if1.true
+    let r = c in
+    malformed (number_kind r.args.key.now r.args.field) _ r.args.at _ r.read_line-line.ensures.0 r.read_line-line.ensures.1 r.requires 0 c.if-not-line.true
 
-array_copy_out_value : tie.Need-array-copy-out-value
+array_copy_out_value : tie.Need-bounds-values-0
 array_copy_out_value c = search rules
 
-cast_value : tie.Need-overflow-cast-value
+cast_value : tie.Need-overflow_cast-value
 cast_value c =
-    let r = c.before.before.before.before in
-    cast_at (number_kind r.before.before.before.args.key.now r.before.before.before.args.field) _ r.before.before.before.args.at _ r.read-line.ensures.0 r.read-line.ensures.1 c.before.before.if1.false 0 (λ z. absurd (omega arith))
+    let r = c in
+    cast_at (number_kind r.args.key.now r.args.field) _ r.args.at _ r.read_line-line.ensures.0 r.read_line-line.ensures.1 c.if-not-line.false 0 (λ z. absurd (omega arith))
 
-number_answer_requires : tie.Need-number-answer-requires
+number_answer_requires : tie.Need-number_answer-answer-requires
 number_answer_requires c κs = search rules
 
-returns_2 : tie.Need-returns-2
+returns_2 : tie.Need-returns-then-answer-ne0
 returns_2 c =
     let r = c.before.before.before.before.before.before in
-    let t = c.before.before.before.before.if1.false in
-    refuses (number_kind r.before.before.before.args.key.now r.before.before.before.args.field) _ r.before.before.before.args.at _ r.read-line.ensures.0 r.read-line.ensures.1 t _ (made r t) r.before.before.before.requires 0 c.before.number-answer.ensures c.if2.true
+    let t = c.if-not-line.false in
+    refuses (number_kind r.args.key.now r.args.field) _ r.args.at _ r.read_line-line.ensures.0 r.read_line-line.ensures.1 t _ (made r t) r.requires 0 c.number_answer-answer.ensures c.if-answer-ne0.true
 
-returns_3 : tie.Need-returns-3
+returns_3 : tie.Need-returns
 returns_3 c =
     let r = c.before.before.before.before.before.before in
-    let t = c.before.before.before.before.if1.false in
-    entry (number_kind r.before.before.before.args.key.now r.before.before.before.args.field) _ r.before.before.before.args.at _ r.read-line.ensures.0 r.read-line.ensures.1 t _ (made r t) c.before.number-answer.ensures c.if2.false
+    let t = c.if-not-line.false in
+    entry (number_kind r.args.key.now r.args.field) _ r.args.at _ r.read_line-line.ensures.0 r.read_line-line.ensures.1 t _ (made r t) c.number_answer-answer.ensures c.if-answer-ne0.false
 
 pub read_number_spec : {M : Type 1} → statement M
 read_number_spec =

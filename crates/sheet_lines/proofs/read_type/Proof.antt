@@ -16,73 +16,69 @@ use Rattle.sheet_lines.proofs.read_type.Statement.{statement}
 use Rattle.sheet_lines.proofs.read_type.Tie as tie
 
 -- the type as the kind makes it
-made : (c : tie.After-read-line) → not c.read-line.result.ok ≡ false
+made : (c : tie.After-read_line-line) → not c.read_line-line.result.ok ≡ false
     → ◌≡◌ {A = ResourceType}
     (record {
-      instances = nat_abs (to_z w32 (of_z w32 (get_or c.read-line.result.values 0 (pos 0))));
-      latency = nat_abs (to_z w32 (of_z w32 (get_or c.read-line.result.values 1 (pos 0))));
-      busy = nat_abs (to_z w32 (of_z w32 (get_or c.read-line.result.values 2 (pos 0))));
+      instances = nat_abs (to_z w32 (of_z w32 (get_or c.read_line-line.result.values 0 (pos 0))));
+      latency = nat_abs (to_z w32 (of_z w32 (get_or c.read_line-line.result.values 1 (pos 0))));
+      busy = nat_abs (to_z w32 (of_z w32 (get_or c.read_line-line.result.values 2 (pos 0))));
     })
-    (type_kind.make (take 3 c.read-line.result.values))
+    (type_kind.make (take 3 c.read_line-line.result.values))
 made c t =
-    let at = value_at_lem type_kind _ c.before.before.before.args.at _ c.read-line.ensures.0 c.read-line.ensures.1 t in
+    let at = value_at_lem type_kind _ c.args.at _ c.read_line-line.ensures.0 c.read_line-line.ensures.1 t in
     λ j. record { instances = nat_abs (at 0 (omega arith) j); latency = nat_abs (at 1 (omega arith) j); busy = nat_abs (at 2 (omega arith) j) }
 
-slice_aggregate_read_line : tie.Need-slice-aggregate-read-line
-slice_aggregate_read_line c = search rules
-
-read_line_requires : tie.Need-read-line-requires
+read_line_requires : tie.Need-read_line-line-requires
 read_line_requires c κs = search rules
 
-returns : tie.Need-returns
+returns : tie.Need-returns-then-not-line
 returns c =
-    let r = c.before.before in
-    malformed type_kind _ r.before.before.before.args.at _ r.read-line.ensures.0 r.read-line.ensures.1 r.before.before.before.requires no_type c.if1.true
+    let r = c in
+    malformed type_kind _ r.args.at _ r.read_line-line.ensures.0 r.read_line-line.ensures.1 r.requires no_type c.if-not-line.true
 
-array_copy_out_instances : tie.Need-array-copy-out-instances
+array_copy_out_instances : tie.Need-bounds-values-0
 array_copy_out_instances c = search rules
 
-cast_instances : tie.Need-overflow-cast-instances
+cast_instances : tie.Need-overflow_cast-instances
 cast_instances c =
-    let r = c.before.before.before.before in
-    cast_at type_kind _ r.before.before.before.args.at _ r.read-line.ensures.0 r.read-line.ensures.1 c.before.before.if1.false 0 (λ z. absurd (omega arith))
+    let r = c in
+    cast_at type_kind _ r.args.at _ r.read_line-line.ensures.0 r.read_line-line.ensures.1 c.if-not-line.false 0 (λ z. absurd (omega arith))
 
-array_copy_out_latency : tie.Need-array-copy-out-latency
+array_copy_out_latency : tie.Need-bounds-values-1
 array_copy_out_latency c = search rules
 
-cast_latency : tie.Need-overflow-cast-latency
+cast_latency : tie.Need-overflow_cast-latency
 cast_latency c =
-    let r = c.before.before.before.before.before in
-    cast_at type_kind _ r.before.before.before.args.at _ r.read-line.ensures.0 r.read-line.ensures.1 c.before.before.before.if1.false 1 (λ z. absurd (omega arith))
+    let r = c in
+    cast_at type_kind _ r.args.at _ r.read_line-line.ensures.0 r.read_line-line.ensures.1 c.if-not-line.false 1 (λ z. absurd (omega arith))
 
-array_copy_out_busy : tie.Need-array-copy-out-busy
+array_copy_out_busy : tie.Need-bounds-values-2
 array_copy_out_busy c = search rules
 
-cast_busy : tie.Need-overflow-cast-busy
+cast_busy : tie.Need-overflow_cast-busy
 cast_busy c =
-    let r = c.before.before.before.before.before.before in
-    cast_at type_kind _ r.before.before.before.args.at _ r.read-line.ensures.0 r.read-line.ensures.1 c.before.before.before.before.if1.false 2 (λ z. absurd (omega arith))
+    let r = c in
+    cast_at type_kind _ r.args.at _ r.read_line-line.ensures.0 r.read_line-line.ensures.1 c.if-not-line.false 2 (λ z. absurd (omega arith))
 
-type_answer_requires : tie.Need-type-answer-requires
+type_answer_requires : tie.Need-type_answer-answer-requires
 type_answer_requires c κs = search rules
 
-returns_2 : tie.Need-returns-2
+returns_2 : tie.Need-returns-then-answer-ne0
 returns_2 c =
     let r = c.before.before.before.before.before.before.before.before in
-    let t = c.before.before.before.before.before.before.if1.false in
-    refuses type_kind _ r.before.before.before.args.at _ r.read-line.ensures.0 r.read-line.ensures.1 t _ (made r t) r.before.before.before.requires no_type c.before.type-answer.ensures c.if2.true
+    let t = c.if-not-line.false in
+    refuses type_kind _ r.args.at _ r.read_line-line.ensures.0 r.read_line-line.ensures.1 t _ (made r t) r.requires no_type c.type_answer-answer.ensures c.if-answer-ne0.true
 
-returns_3 : tie.Need-returns-3
+returns_3 : tie.Need-returns
 returns_3 c =
     let r = c.before.before.before.before.before.before.before.before in
-    let t = c.before.before.before.before.before.before.if1.false in
-    entry type_kind _ r.before.before.before.args.at _ r.read-line.ensures.0 r.read-line.ensures.1 t _ (made r t) c.before.type-answer.ensures c.if2.false
+    let t = c.if-not-line.false in
+    entry type_kind _ r.args.at _ r.read_line-line.ensures.0 r.read_line-line.ensures.1 t _ (made r t) c.type_answer-answer.ensures c.if-answer-ne0.false
 
 pub read_type_spec : {M : Type 1} → statement M
 read_type_spec =
     tie.close
     (tie.spec
-    slice_aggregate_read_line
     read_line_requires
     returns
     array_copy_out_instances

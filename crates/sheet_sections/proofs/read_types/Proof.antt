@@ -10,29 +10,25 @@ use borrow.Author.Rules.{rules}
 use Rattle.sheet_sections.proofs.read_types.Statement.{statement}
 use Rattle.sheet_sections.proofs.read_types.Tie as tie
 
-slice_aggregate_read_number : tie.Need-slice-aggregate-read-number
-slice_aggregate_read_number c = search rules
-
-read_number_requires : tie.Need-read-number-requires
+read_number_requires : tie.Need-read_number-count-requires
 read_number_requires c κs = search rules
 
-no_types_requires : tie.Need-no-types-requires
+no_types_requires : tie.Need-no_types-requires
 no_types_requires c κs = search rules
 
-returns : tie.Need-returns
-returns c = count_refused types_kind type_kind _ c.before.before.before.read_number.ensures c.before.if1.true c.no-types.ensures
+returns : tie.Need-returns-then-count-ne0
+returns c = count_refused types_kind type_kind _ c.read_number-count.ensures c.if-count-ne0.true c.no_types.ensures
 
-type_lines_requires : tie.Need-type-lines-requires
-type_lines_requires c κs = (c.before.before.read_number.ensures.within, most (count_inside key.types_key range.types _ c.before.before.read_number.ensures c.if1.false))
+type_lines_requires : tie.Need-type_lines-requires
+type_lines_requires c κs = (c.read_number-count.ensures.within, most (count_inside key.types_key range.types _ c.read_number-count.ensures c.if-count-ne0.false))
 
-returns_2 : tie.Need-returns-2
-returns_2 c = section_read types_kind type_kind _ c.before.before.before.read_number.ensures c.before.if1.false c.type_lines_lem.ensures
+returns_2 : tie.Need-returns
+returns_2 c = section_read types_kind type_kind _ c.read_number-count.ensures c.if-count-ne0.false c.type_lines.ensures
 
 pub read_types_spec : {M : Type 1} → statement M
 read_types_spec =
     tie.close
     (tie.spec
-    slice_aggregate_read_number
     read_number_requires
     no_types_requires
     returns
