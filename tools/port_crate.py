@@ -149,6 +149,16 @@ def spec_named(text, name):
     return re.sub(r"(?m)^(pub )?%s[-_]spec (?=[:=])" % "[-_]".join(re.escape(it) for it in name.split("_")), lambda m: (m[1] or "") + name + "_spec ", text)
 
 
+def without_gone(given, text, aliases):
+    """Without the answers, by search alone, of goals that are no more."""
+    new = {it[1] for it in given["needs"]}
+    alias = "|".join(re.escape(it) for it in aliases)
+    for m in re.findall(r"(?m)^((\w+) : (?:%s)\.Need-(slice-aggregate-[\w-]+)\n\2 [\w κσμ]*= search rules\n\n)" % alias, text):
+        if m[2] not in new:
+            text = re.sub(r"(?m)^    %s\n" % m[1], "", text.replace(m[0], ""))
+    return text
+
+
 def at_base(path):
     shown = subprocess.run(["git", "show", BASE + ":" + os.path.relpath(path, ROOT)], cwd=ROOT, capture_output=True, text=True)
     return shown.stdout
@@ -173,6 +183,7 @@ def retie(home, listed):
         text = goal_paths.without_constants(given, goal_paths.without_settled(given, old, ["tie", *aliases]))
         text = goal_paths.turn(given, text, ["tie", *aliases], Names(given).by_name)
         text = spec_named(untested(Names(given).turn(text, aliases)), folder[-1])
+        text = without_gone(given, text, ["tie", *aliases])
         if text != old:
             write(path, text)
 

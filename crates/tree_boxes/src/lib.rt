@@ -4,6 +4,8 @@
 // the cap, for operations that the sheet has, and for bounds of at most five digits (`Small`).
 // Caller: `tree_judge`, with nodes read by `tree_lines`, as for `tree_nodes`. `root`, `up_to` and `above` themselves keep
 // the bounds small.
+#![tactic(auto)]
+
 ghost use Rattle.std.specs.Prelude.{◌≡◌, ◌≤◌, ◌<◌, ◌-◌, max, min, pos, ◌-ℤ◌, get_or};
 ghost use Rattle.sizes.specs.Sizes.{most_operations};
 ghost use Rattle.text.specs.Sizes.{four_digits};
@@ -21,7 +23,7 @@ use tree_lines::{Node, SPLIT};
 
 // The lowest and the highest start left to each operation, and its first and last instance. A highest start may be
 // negative, and then no start is left.
-#[derive(Drop)]
+#[derive(Clone, Copy)]
 pub struct Bounds {
     pub lowest: [usize; MOST_OPERATIONS],
     pub highest: [i32; MOST_OPERATIONS],

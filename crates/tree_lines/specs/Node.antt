@@ -2,7 +2,7 @@
 use Rattle.std.specs.Prelude.{ℕ, ◌≤◌, ◌<◌, ◌≡◌, List, [], ◌∷◌, Bool, true, false, cond, eqb, ltb, leb, length, drop, take, get_or, replicate}
 use Rattle.text.specs.Sizes.{four_digits}
 use Rattle.text.specs.Keys.{loop_key}
-use Rattle.scan_list.specs.List.{most_items, Listed, on_listed, list_of}
+use Rattle.scan_list.specs.List.{most_items, on_listed, list_of}
 use Rattle.denial.specs.Tree.{Cut, split, seat, Leaf, loop, late, clash}
 use Rattle.tree_lines.specs.declared.Node.{Node}
 

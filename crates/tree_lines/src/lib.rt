@@ -1,4 +1,6 @@
 // Reads the line of a node of a denial's tree: its key, its numbers, and that the sheet has its operations and edges.
+#![tactic(auto)]
+
 ghost use Rattle.std.specs.Prelude.{◌≡◌, ◌≤◌, eqb, ltb, drop, take, get_or};
 ghost use Rattle.scan_list.specs.List.{most_items};
 ghost use Rattle.tree_lines.specs.Node.{all_below, both, node_of, seen_node, NodeFits};
@@ -22,7 +24,7 @@ const MOST_CHAINED: usize = 24;
 
 // The line of a node with its kind and its numbers, 0 past them, and the place after it. Of a line that is none
 // everything is 0.
-#[derive(Drop)]
+#[derive(Clone, Copy)]
 pub struct Node {
     pub kind: usize,
     pub count: usize,
