@@ -15,7 +15,7 @@ LET = re.compile(r"\blet\s+([\w']+)\s*=\s*([a-z][\w']*(?:\.%s)*)\s+in\b" % PART)
 
 def plain(name):
     """A name without what port.py put in front of it."""
-    name = re.sub(r"^(overflow|nonzero)-", "", name.replace("_", "-"))
+    name = re.sub(r"^(overflow|nonzero)-", "", name.replace("_", "-").lower())  # respell.py gave some a type's case
     return re.sub(r"^bounds-(?=\d+-)", "index-", re.sub(r"^slice-bounds-", "part-", name))
 
 
