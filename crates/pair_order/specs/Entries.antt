@@ -1,6 +1,6 @@
 -- Entries past R, N or E are no part of a sheet: sheets that differ only there get the same slot orders. Assumes
 -- nothing.
-use Rattle.std.specs.Prelude.{◌≡◌, ℕ, ◌<◌}
+use Rattle.std.specs.Prelude.{ℕ, ◌<◌}
 use Rattle.std.proofs.Common.{sym, subst, arith}
 use Rattle.sheet.specs.declared.Sheet.{Sheet}
 use Rattle.sheet.specs.Sheet.{InRange}
@@ -10,7 +10,7 @@ use Rattle.plan.specs.declared.PlanAnswer.{PlanAnswer}
 use Rattle.plan.specs.Rules.{Rivals}
 use Rattle.plan.specs.Entries.{rivals_same, after_plan_same}
 use Rattle.pair_order.specs.Pairs.{Pair, PairNumber}
-use Rattle.pair_order.specs.Answers.{refused, refused_by, Ordered, Paired, InPlan, SlotOrderAt}
+use Rattle.pair_order.specs.Answers.{refused, refused_by, Ordered, InPlan, SlotOrderAt}
 use Rattle.pair_order.specs.declared.SlotOrder.{SlotOrder}
 
 module _ {s s' : Sheet} (e : SameSheet s s') (ok : InRange s) {L : ℕ} {p : PlanAnswer} {a : SlotOrder} where

@@ -1,5 +1,7 @@
 // Slot order in a plan that is given: which operation of a pair of rivals has the smaller slot. A crate of its own for
 // the check's time. Caller: `slot_order`, with what `schedule::plan_at` answers.
+#![tactic(auto)]
+
 ghost use Rattle.std.specs.Prelude.{◌<◌, ◌≤◌, ◌≡◌};
 ghost use Rattle.plan.specs.Answers.{PlanAt};
 ghost use Rattle.sizes.specs.Sizes.{most_operations};
@@ -16,7 +18,7 @@ const LAST_OPERATION: usize = MOST_OPERATIONS - 1;
 
 // The slot order, or why there is none; with 5 the first bad closed walk.
 #[repr(C)]
-#[derive(Drop)]
+#[derive(Clone, Copy)]
 pub struct SlotOrder {
     pub answer: usize,
     pub order: usize,

@@ -7,10 +7,10 @@ use Rattle.pair_order.specs.PairLaws.{product_fits}
 use Rattle.pair_order.proofs.first_pair.Statement.{statement}
 use Rattle.pair_order.proofs.first_pair.Tie as tie
 
-sub_others : tie.Need-overflow-sub-others
+sub_others : tie.Need-overflow_sub-others
 sub_others c = search rules
 
-mul_result : tie.Need-overflow-mul-result
+mul_result : tie.Need-overflow_mul-result
 mul_result c = product_fits (omega (arith, c.requires.1)) (omega (arith, c.requires.1))
 
 returns : tie.Need-returns
