@@ -1,5 +1,7 @@
 // What the words of a command ask for, when all of them have been seen: words/specs/Requests.antt says what. A crate of
 // its own for the check's time.
+#![tactic(auto)]
+
 ghost use Rattle.std.specs.Prelude.{◌≡◌};
 ghost use Rattle.words.specs.Requests.{interval_rows, counted, taking, request_in, request_of};
 

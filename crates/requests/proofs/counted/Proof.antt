@@ -5,25 +5,25 @@ use Rattle.words.specs.Requests.{counted}
 use Rattle.requests.proofs.counted.Statement.{statement}
 use Rattle.requests.proofs.counted.Tie as tie
 
-returns : tie.Need-returns
+returns : tie.Need-returns-then-times-eq0
 unfolding counted
-returns c = simp (c.before.if1.true, eq-eqb _ _ c.if2.true)
+returns c = simp (c.if-taken.true, eq-eqb _ _ c.if-times-eq0.true)
 
-returns_2 : tie.Need-returns-2
+returns_2 : tie.Need-returns-then-times-ne1
 unfolding counted
-returns_2 c = simp (c.before.before.if1.true, ne_eqb _ _ c.before.if2.false, ne_eqb _ _ c.if3.true)
+returns_2 c = simp (c.if-taken.true, ne_eqb _ _ c.if-times-eq0.false, ne_eqb _ _ c.if-times-ne1.true)
 
-returns_3 : tie.Need-returns-3
+returns_3 : tie.Need-returns-then-taken
 unfolding counted
-returns_3 c = simp (c.before.before.if1.true, ne_eqb _ _ c.before.if2.false, eq-eqb _ _ c.if3.false)
+returns_3 c = simp (c.if-taken.true, ne_eqb _ _ c.if-times-eq0.false, eq-eqb _ _ c.if-times-ne1.false)
 
-returns_4 : tie.Need-returns-4
+returns_4 : tie.Need-returns-then-times-ne0
 unfolding counted
-returns_4 c = simp (c.before.if1.false, ne_eqb _ _ c.if4.true)
+returns_4 c = simp (c.if-taken.false, ne_eqb _ _ c.if-times-ne0.true)
 
-returns_5 : tie.Need-returns-5
+returns_5 : tie.Need-returns
 unfolding counted
-returns_5 c = simp (c.before.if1.false, eq-eqb _ _ c.if4.false)
+returns_5 c = simp (c.if-taken.false, eq-eqb _ _ c.if-times-ne0.false)
 
 pub counted_spec : {M : Type 1} → statement M
 counted_spec = tie.close (tie.spec returns returns_2 returns_3 returns_4 returns_5)
