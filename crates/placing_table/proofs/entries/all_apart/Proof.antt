@@ -3,49 +3,49 @@
 use borrow.Author.Rules.{rules}
 use Prim.Native.Nat.{ℕ, ◌≤◌, ◌<◌, ◌-◌}
 use native.Mathlib.Omega.{arith}
-use mathlib.Core.Path.{◌≡◌, sym, ◌∙◌}
+use mathlib.Core.Path.{◌≡◌}
 use borrow.Author.Count.{below_more}
-use lib.ListN.{length, length-map}
+use lib.ListN.{length}
 use Rattle.sizes.specs.Sizes.{most_operations}
 use Rattle.laws.specs.Says.{yes_says}
-use Rattle.laws.specs.Tests.{stops, passed}
+use Rattle.laws.specs.Says.{no_says}
 use Rattle.placing_table.specs.Table.{Apart}
 use Rattle.placing_table.specs.Entries.{unplaced_past, everywhere}
 use Rattle.placing_table.proofs.entries.all_apart.Statement.{statement}
 use Rattle.placing_table.proofs.entries.all_apart.Tie as tie
 
-abbrev invariant_loop : tie.invariant_loop
+abbrev invariant_loop : tie.invariant-loop-i
 invariant_loop sheet interval table i₀ i = (i ≤ most_operations) × ((x : ℕ) → x < i → Apart sheet interval table x)
 
-abbrev decreases_loop : tie.decreases_loop
+abbrev decreases_loop : tie.decreases-loop-i
 decreases_loop sheet interval table i₀ i = most_operations - i
 
 entries_whole : (c : tie.Start invariant_loop decreases_loop) → length c.args.table.entries ≡ most_operations
-entries_whole c = sym (length-map c.args.table.entries _) ∙ c.well-formed.1.1.0.1.1.0.1.0.1
+entries_whole c = c.well_formed.1.1.0.1.1.0.1.0.1
 
-loop_holds : tie.Need-loop-init invariant_loop decreases_loop
+loop_holds : tie.Need-loop-i-init invariant_loop decreases_loop
 loop_holds c = (omega arith, λ x h. absurd (omega arith))
 
 apart_requires : tie.Need-apart-requires invariant_loop decreases_loop
-apart_requires c κs = c.loop-test.true
+apart_requires c κs = c.loop-i-test.true
 
-returns : tie.Need-returns invariant_loop decreases_loop
-returns c = stops c.before.apart.ensures (λ all. all c.before.before.before.loop.i) c.if1.true
+returns : tie.Need-returns-then-not-apart invariant_loop decreases_loop
+returns c = no_says (λ all. c.apart.ensures.no c.if-not-apart.true (all c.loop-i.i))
 
-add_i : tie.Need-overflow-add-i invariant_loop decreases_loop
+add_i : tie.Need-overflow_step-i invariant_loop decreases_loop
 add_i c = search rules
 
-loop_less : tie.Need-loop-smaller invariant_loop decreases_loop
+loop_less : tie.Need-loop-i-smaller invariant_loop decreases_loop
 loop_less c = search rules
 
-loop_again : tie.Need-loop-preserved invariant_loop decreases_loop
-loop_again c = (omega (arith, c.before.before.loop-test.true), below_more _ _ c.before.before.before.loop.invariant.1 (passed c.before.apart.ensures c.if1.false))
+loop_again : tie.Need-loop-i-preserved invariant_loop decreases_loop
+loop_again c = (omega (arith, c.loop-i-test.true), below_more _ _ c.loop-i.invariant.1 (c.apart.ensures.yes c.if-not-apart.false))
 
-returns_2 : tie.Need-returns-2 invariant_loop decreases_loop
+returns_2 : tie.Need-returns invariant_loop decreases_loop
 returns_2 c =
     let a = c.before.before in
     yes_says (everywhere _
-    (λ i h. c.before.loop.invariant.1 i (omega (arith, c.loop-test.false)))
+    (λ i h. c.loop-i.invariant.1 i (omega (arith, c.loop-i-test.false)))
     (λ i h p. absurd (unplaced_past a.args.table (entries_whole a) h p)))
 
 pub all_apart_spec : {M : Type 1} → statement M
