@@ -17,7 +17,7 @@ const MOST_LAG: i32 = MOST_STARTS as i32;
 const LEAST_LAG: i32 = -16384;
 
 // The lags of a task, and the pairs whose lags are worth a look.
-#[derive(Drop)]
+#[derive(Clone, Copy)]
 struct Lags {
     lag: [i32; PAIRS],
     near: [bool; PAIRS],

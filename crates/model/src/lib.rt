@@ -3,5 +3,7 @@
 // operation may have.
 // An inner layer, a crate of its own for the check's time: its functions ask for a sheet in range, an interval up to
 // the cap, the sheet's graph and its lags. Caller: schedule::plan_at, after the sheet's questions, 4 and 5.
+#![tactic(auto)]
+
 pub mod allowed;
 pub mod build;

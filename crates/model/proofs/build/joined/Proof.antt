@@ -11,70 +11,70 @@ use Rattle.model.specs.Task.{pairs}
 use Rattle.model.proofs.build.joined.Statement.{statement}
 use Rattle.model.proofs.build.joined.Tie as tie
 
-abbrev invariant_loop : tie.invariant_loop
+abbrev invariant_loop : tie.invariant-loop-k
 invariant_loop graph out₀ count k₀ out k = (k ≤ count) × (length out ≡ pairs)
 
-abbrev decreases_loop : tie.decreases_loop
+abbrev decreases_loop : tie.decreases-loop-k
 decreases_loop graph out₀ count k₀ out k = count - k
 
 -- the ends of the edge are operations
-ends : (c : tie.After-e invariant_loop decreases_loop) →
-    let l = c.before.before in
-    let e = edge_at l.before.args.t2 l.loop.k in
+ends : (c : tie.After-e-1 invariant_loop decreases_loop) →
+    let l = c in
+    let e = edge_at l.args.graph l.loop-k.k in
     (e.from < most_operations) × (e.to < most_operations)
 ends c =
-    let l = c.before.before in
-    let g = l.before.requires in
-    let e = g.edge_ok l.loop.k c.before.loop-test.true in
+    let l = c in
+    let g = l.requires in
+    let e = g.edge_ok l.loop-k.k c.loop-k-test.true in
     (omega (arith, e.from_ok, g.ops_ok), omega (arith, e.to_ok, g.ops_ok))
 
-loop_holds : tie.Need-loop-init invariant_loop decreases_loop
+loop_holds : tie.Need-loop-k-init invariant_loop decreases_loop
 loop_holds c = search rules
 
-mul_e : tie.Need-overflow-mul-e invariant_loop decreases_loop
+mul_e : tie.Need-offset_bounds-graph-k invariant_loop decreases_loop
 mul_e c = search rules
 
-element_copy_out_e : tie.Need-element-copy-out-e invariant_loop decreases_loop
+element_copy_out_e : tie.Need-bounds-graph-k invariant_loop decreases_loop
 element_copy_out_e c = search rules
 
-mul_out : tie.Need-overflow-mul-out invariant_loop decreases_loop
+mul_out : tie.Need-overflow_mul-out invariant_loop decreases_loop
 mul_out c =
     let e = ends c in
     search rules
 
-add_out : tie.Need-overflow-add-out invariant_loop decreases_loop
+add_out : tie.Need-overflow_add-out invariant_loop decreases_loop
 add_out c =
     let e = ends c in
     search rules
 
-array_write_out : tie.Need-array-write-out invariant_loop decreases_loop
+array_write_out : tie.Need-bounds-out-i invariant_loop decreases_loop
 array_write_out c =
     let e = ends c in
     search rules
 
-mul_out_2 : tie.Need-overflow-mul-out-2 invariant_loop decreases_loop
+mul_out_2 : tie.Need-overflow_mul-out-in-loop-k invariant_loop decreases_loop
 mul_out_2 c =
     let e = ends c in
     search rules
 
-add_out_2 : tie.Need-overflow-add-out-2 invariant_loop decreases_loop
+add_out_2 : tie.Need-overflow_add-out-in-loop-k invariant_loop decreases_loop
 add_out_2 c =
     let e = ends c in
     search rules
 
-array_write_out_2 : tie.Need-array-write-out-2 invariant_loop decreases_loop
+array_write_out_2 : tie.Need-bounds-out-j invariant_loop decreases_loop
 array_write_out_2 c =
     let e = ends c in
     search rules
 
-add_k : tie.Need-overflow-add-k invariant_loop decreases_loop
+add_k : tie.Need-overflow_step-k invariant_loop decreases_loop
 add_k c = search rules
 
-loop_less : tie.Need-loop-smaller invariant_loop decreases_loop
+loop_less : tie.Need-loop-k-smaller invariant_loop decreases_loop
 loop_less c = search rules
 
-loop_again : tie.Need-loop-preserved invariant_loop decreases_loop
-loop_again c = let l = c.before.before in (omega (arith, c.before.loop-test.true), simp length-set l.loop.invariant.1)
+loop_again : tie.Need-loop-k-preserved invariant_loop decreases_loop
+loop_again c = let l = c in (omega (arith, c.loop-k-test.true), simp length-set l.loop-k.invariant.1)
 
 returns : tie.Need-returns invariant_loop decreases_loop
 returns c = search rules
