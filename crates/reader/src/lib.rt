@@ -1,5 +1,7 @@
 // Reads a loop sheet from bytes: question 1, then line by line question 2 and what the line's entry answers. And finds
 // the line at fault of bytes that are refused.
+#![tactic(auto)]
+
 ghost use Rattle.std.specs.Prelude.{◌≡◌, ◌≤◌, length};
 ghost use Rattle.reader.specs.Fault.{fault_of, line_number};
 ghost use Rattle.reader.specs.Read.{read_of};
@@ -21,14 +23,14 @@ const LINE_FEED: u8 = b'\n';
 
 // The answer and, where it is 0, the sheet; with a refusal every number of the sheet is 0.
 #[repr(C)]
-#[derive(Drop)]
+#[derive(Clone, Copy)]
 pub struct ReadAnswer {
     pub answer: usize,
     pub sheet: Sheet,
 }
 
 // The same, with the place after the last line; with a refusal, the place where what is refused begins.
-#[derive(Drop)]
+#[derive(Clone, Copy)]
 struct SheetRead {
     answer: usize,
     sheet: Sheet,

@@ -13,149 +13,143 @@ use Rattle.reader.proofs.read_whole.Statement.{statement}
 use Rattle.reader.proofs.read_whole.Tie as tie
 
 -- what was found by the calls before
-horizon_found : (m : tie.After-read-number2) → let n = m.before.before.before.before in let s = n.before.before.before.before.args.bytes.now in
-    line_from horizon_kind s ≡ found n.read_number.result.value (drop n.read_number.result.next s)
-horizon_found m = is_found m.before.before.before.before.read_number.ensures m.before.before.if2.false
+horizon_found : (m : tie.After-read_number-cap) → let n = m in let s = n.args.bytes.now in
+    line_from horizon_kind s ≡ found n.read_number-horizon.result.value (drop n.read_number-horizon.result.next s)
+horizon_found m = is_found m.read_number-horizon.ensures m.if-horizon-ne0.false
 
-cap_found : (t : tie.After-read-types) → let m = t.before.before.before in let n = m.before.before.before.before in let s = n.before.before.before.before.args.bytes.now in
-    line_from cap_kind (drop n.read_number.result.next s) ≡ found m.read-number2.result.value (drop m.read-number2.result.next s)
-cap_found t = is_found t.before.before.before.read-number2.ensures t.before.if3.false
+cap_found : (t : tie.After-read_types-types) → let m = t in let n = m in let s = n.args.bytes.now in
+    line_from cap_kind (drop n.read_number-horizon.result.next s) ≡ found m.read_number-cap.result.value (drop m.read_number-cap.result.next s)
+cap_found t = is_found t.read_number-cap.ensures t.if-cap-ne0.false
 
-types_found : (o : tie.After-read-ops) → let t = o.before.before.before in let m = t.before.before.before in let s = m.before.before.before.before.before.before.before.before.args.bytes.now in
-    section_from types_kind type_kind (drop m.read-number2.result.next s) ≡ found (take t.read-types.result.count t.read-types.result.entries) (drop t.read-types.result.next s)
-types_found o = is_found o.before.before.before.read-types.ensures.0 o.before.if4.false
+types_found : (o : tie.After-read_ops-ops) → let t = o in let m = t in let s = m.args.bytes.now in
+    section_from types_kind type_kind (drop m.read_number-cap.result.next s) ≡ found (take t.read_types-types.result.count t.read_types-types.result.entries) (drop t.read_types-types.result.next s)
+types_found o = is_found o.read_types-types.ensures.0 o.if-types-ne0.false
 
-ops_found : (e : tie.After-read-edges) → let o = e.before.before.before in let t = o.before.before.before in let s = t.before.before.before.before.before.before.before.before.before.before.before.args.bytes.now in
-    section_from ops_kind (op_kind t.read-types.result.count t.before.before.before.before.before.before.before.read_number.result.value) (drop t.read-types.result.next s) ≡ found (take o.read_ops.result.count o.read_ops.result.entries) (drop o.read_ops.result.next s)
-ops_found e = is_found e.before.before.before.read_ops.ensures.0 e.before.if5.false
+ops_found : (e : tie.After-read_edges-edges) → let o = e in let t = o in let s = t.args.bytes.now in
+    section_from ops_kind (op_kind t.read_types-types.result.count t.read_number-horizon.result.value) (drop t.read_types-types.result.next s) ≡ found (take o.read_ops-ops.result.count o.read_ops-ops.result.entries) (drop o.read_ops-ops.result.next s)
+ops_found e = is_found e.read_ops-ops.ensures.0 e.if-ops-ne0.false
 
 refuse_requires : tie.Need-refuse-requires
 refuse_requires c κs = search rules
 
-returns : tie.Need-returns
-returns c = whole_refused c.refuse.ensures (λ z. absurd (omega arith)) (too_long _ c.before.if1.true) (omega (arith, c.before.if1.true))
+returns : tie.Need-returns-then-bytes-gt-LONGEST_SHEET
+returns c = whole_refused c.refuse.ensures (λ z. absurd (omega arith)) (too_long _ c.if-bytes-gt-LONGEST_SHEET.true) (omega (arith, c.if-bytes-gt-LONGEST_SHEET.true))
 
-slice_aggregate_read_number : tie.Need-slice-aggregate-read-number
-slice_aggregate_read_number c = search rules
-
-read_number_requires : tie.Need-read-number-requires
+read_number_requires : tie.Need-read_number-horizon-requires
 read_number_requires c κs = search rules
 
-refuse_requires_2 : tie.Need-refuse-requires-2
+refuse_requires_2 : tie.Need-refuse-requires-then-horizon-ne0
 refuse_requires_2 c κs = search rules
 
-returns_2 : tie.Need-returns-2
+returns_2 : tie.Need-returns-then-horizon-ne0
 returns_2 c =
-    let n = c.before.before.before in
-    let h = n.before.before.if1.false in
-    let w = c.before.if2.true in
-    whole_refused c.refuse2.ensures w (stops_horizon _ h _ _ (is_refused n.read_number.ensures w)) n.read_number.ensures.within
+    let n = c in
+    let h = n.if-bytes-gt-LONGEST_SHEET.false in
+    let w = c.if-horizon-ne0.true in
+    whole_refused c.refuse-then-horizon-ne0.ensures w (stops_horizon _ h _ _ (is_refused n.read_number-horizon.ensures w)) n.read_number-horizon.ensures.within
 
-slice_aggregate_read_number_2 : tie.Need-slice-aggregate-read-number-2
-slice_aggregate_read_number_2 c = search rules
-
-read_number_requires_2 : tie.Need-read-number-requires-2
+read_number_requires_2 : tie.Need-read_number-cap-requires
 read_number_requires_2 c κs = search rules
 
-refuse_requires_3 : tie.Need-refuse-requires-3
+refuse_requires_3 : tie.Need-refuse-requires-then-cap-ne0
 refuse_requires_3 c κs = search rules
 
-returns_3 : tie.Need-returns-3
+returns_3 : tie.Need-returns-then-cap-ne0
 returns_3 c =
     let m = c.before.before.before in
-    let n = m.before.before.before.before in
-    let h = n.before.before.if1.false in
-    let w = c.before.if3.true in
-    whole_refused c.refuse3.ensures w (stops_cap _ h _ _ (horizon_found m) _ _ (is_refused m.read-number2.ensures w)) m.read-number2.ensures.within
+    let n = m in
+    let h = n.if-bytes-gt-LONGEST_SHEET.false in
+    let w = c.if-cap-ne0.true in
+    whole_refused c.refuse-then-cap-ne0.ensures w (stops_cap _ h _ _ (horizon_found m) _ _ (is_refused m.read_number-cap.ensures w)) m.read_number-cap.ensures.within
 
-read_types_requires : tie.Need-read-types-requires
+read_types_requires : tie.Need-read_types-types-requires
 read_types_requires c κs = search rules
 
-refuse_requires_4 : tie.Need-refuse-requires-4
+refuse_requires_4 : tie.Need-refuse-requires-then-types-ne0
 refuse_requires_4 c κs = search rules
 
-returns_4 : tie.Need-returns-4
+returns_4 : tie.Need-returns-then-types-ne0
 returns_4 c =
     let t = c.before.before.before in
     let m = t.before.before.before in
-    let n = m.before.before.before.before in
-    let h = n.before.before.if1.false in
-    let w = c.before.if4.true in
-    whole_refused c.refuse4.ensures w
-    (stops_types _ h _ _ (horizon_found m) _ _ (cap_found t) _ _ (is_refused t.read-types.ensures.0 w))
-    t.read-types.ensures.0.within
+    let n = m in
+    let h = n.if-bytes-gt-LONGEST_SHEET.false in
+    let w = c.if-types-ne0.true in
+    whole_refused c.refuse-then-types-ne0.ensures w
+    (stops_types _ h _ _ (horizon_found m) _ _ (cap_found t) _ _ (is_refused t.read_types-types.ensures.0 w))
+    t.read_types-types.ensures.0.within
 
-read_ops_requires : tie.Need-read-ops-requires
+read_ops_requires : tie.Need-read_ops-ops-requires
 read_ops_requires c κs = search rules
 
-refuse_requires_5 : tie.Need-refuse-requires-5
+refuse_requires_5 : tie.Need-refuse-requires-then-ops-ne0
 refuse_requires_5 c κs = search rules
 
-returns_5 : tie.Need-returns-5
+returns_5 : tie.Need-returns-then-ops-ne0
 returns_5 c =
     let o = c.before.before.before in
     let t = o.before.before.before in
     let m = t.before.before.before in
-    let n = m.before.before.before.before in
-    let h = n.before.before.if1.false in
-    let w = c.before.if5.true in
-    whole_refused c.refuse5.ensures w
-    (stops_ops _ h _ _ (horizon_found m) _ _ (cap_found t) _ _ (types_found o) _ (filled_length t.read-types.ensures.1) _ _ (is_refused o.read_ops.ensures.0 w))
-    o.read_ops.ensures.0.within
+    let n = m in
+    let h = n.if-bytes-gt-LONGEST_SHEET.false in
+    let w = c.if-ops-ne0.true in
+    whole_refused c.refuse-then-ops-ne0.ensures w
+    (stops_ops _ h _ _ (horizon_found m) _ _ (cap_found t) _ _ (types_found o) _ (filled_length t.read_types-types.ensures.1) _ _ (is_refused o.read_ops-ops.ensures.0 w))
+    o.read_ops-ops.ensures.0.within
 
-read_edges_requires : tie.Need-read-edges-requires
+read_edges_requires : tie.Need-read_edges-edges-requires
 read_edges_requires c κs = search rules
 
-refuse_requires_6 : tie.Need-refuse-requires-6
+refuse_requires_6 : tie.Need-refuse-requires-then-edges-ne0
 refuse_requires_6 c κs = search rules
 
-returns_6 : tie.Need-returns-6
+returns_6 : tie.Need-returns-then-edges-ne0
 returns_6 c =
     let e = c.before.before.before in
     let o = e.before.before.before in
     let t = o.before.before.before in
     let m = t.before.before.before in
-    let n = m.before.before.before.before in
-    let h = n.before.before.if1.false in
-    let w = c.before.if6.true in
-    whole_refused c.refuse6.ensures w
-    (stops_edges _ h _ _ (horizon_found m) _ _ (cap_found t) _ _ (types_found o) _ (filled_length t.read-types.ensures.1) _ _ (ops_found e) _ (filled_length o.read_ops.ensures.1) _ _
-    (is_refused e.read-edges.ensures.0 w))
-    e.read-edges.ensures.0.within
+    let n = m in
+    let h = n.if-bytes-gt-LONGEST_SHEET.false in
+    let w = c.if-edges-ne0.true in
+    whole_refused c.refuse-then-edges-ne0.ensures w
+    (stops_edges _ h _ _ (horizon_found m) _ _ (cap_found t) _ _ (types_found o) _ (filled_length t.read_types-types.ensures.1) _ _ (ops_found e) _ (filled_length o.read_ops-ops.ensures.1) _ _
+    (is_refused e.read_edges-edges.ensures.0 w))
+    e.read_edges-edges.ensures.0.within
 
-refuse_requires_7 : tie.Need-refuse-requires-7
+refuse_requires_7 : tie.Need-refuse-requires-then-edges-bytes
 refuse_requires_7 c κs = search rules
 
-returns_7 : tie.Need-returns-7
+returns_7 : tie.Need-returns-then-edges-bytes
 returns_7 c =
     let e = c.before.before.before.before.before in
     let o = e.before.before.before in
     let t = o.before.before.before in
     let m = t.before.before.before in
-    let n = m.before.before.before.before in
-    let h = n.before.before.if1.false in
-    let s = n.before.before.before.before.args.bytes.now in
-    whole_refused c.refuse7.ensures (λ z. absurd (omega arith))
-    (something_more _ h _ _ (horizon_found m) _ _ (cap_found t) _ _ (types_found o) _ (filled_length t.read-types.ensures.1) _ _ (ops_found e) _ (filled_length o.read_ops.ensures.1) _ _
-    (is_found e.read-edges.ensures.0 c.before.before.before.if6.false) _ _ (drop-cons s e.read-edges.result.next 0 c.before.if7.true))
-    e.read-edges.ensures.0.within
+    let n = m in
+    let h = n.if-bytes-gt-LONGEST_SHEET.false in
+    let s = n.args.bytes.now in
+    whole_refused c.refuse-then-edges-bytes.ensures (λ z. absurd (omega arith))
+    (something_more _ h _ _ (horizon_found m) _ _ (cap_found t) _ _ (types_found o) _ (filled_length t.read_types-types.ensures.1) _ _ (ops_found e) _ (filled_length o.read_ops-ops.ensures.1) _ _
+    (is_found e.read_edges-edges.ensures.0 c.if-edges-ne0.false) _ _ (drop-cons s e.read_edges-edges.result.next 0 c.if-edges-bytes.true))
+    e.read_edges-edges.ensures.0.within
 
 accept_requires : tie.Need-accept-requires
 accept_requires c κs = search rules
 
-returns_8 : tie.Need-returns-8
+returns_8 : tie.Need-returns
 returns_8 c =
     let e = c.before.before.before.before.before in
     let o = e.before.before.before in
     let t = o.before.before.before in
     let m = t.before.before.before in
-    let n = m.before.before.before.before in
-    let h = n.before.before.if1.false in
-    let s = n.before.before.before.before.args.bytes.now in
-    whole_found c.accept.ensures t.read-types.ensures.1 o.read_ops.ensures.1 e.read-edges.ensures.1
-    (whole _ h _ _ (horizon_found m) _ _ (cap_found t) _ _ (types_found o) _ (filled_length t.read-types.ensures.1) _ _ (ops_found e) _ (filled_length o.read_ops.ensures.1) _ _
-    (is_found e.read-edges.ensures.0 c.before.before.before.if6.false) (drop_of_length-le s c.before.if7.false))
-    e.read-edges.ensures.0.within
+    let n = m in
+    let h = n.if-bytes-gt-LONGEST_SHEET.false in
+    let s = n.args.bytes.now in
+    whole_found c.accept.ensures t.read_types-types.ensures.1 o.read_ops-ops.ensures.1 e.read_edges-edges.ensures.1
+    (whole _ h _ _ (horizon_found m) _ _ (cap_found t) _ _ (types_found o) _ (filled_length t.read_types-types.ensures.1) _ _ (ops_found e) _ (filled_length o.read_ops-ops.ensures.1) _ _
+    (is_found e.read_edges-edges.ensures.0 c.if-edges-ne0.false) (drop_of_length-le s c.if-edges-bytes.false))
+    e.read_edges-edges.ensures.0.within
 
 pub read_whole_spec : {M : Type 1} → statement M
 read_whole_spec =
@@ -163,11 +157,9 @@ read_whole_spec =
     (tie.spec
     refuse_requires
     returns
-    slice_aggregate_read_number
     read_number_requires
     refuse_requires_2
     returns_2
-    slice_aggregate_read_number_2
     read_number_requires_2
     refuse_requires_3
     returns_3
