@@ -12,74 +12,74 @@ use Rattle.tree_boxes.specs.Cuts.{starts_above_box, starts_above_small, instance
 use Rattle.tree_boxes.proofs.above.Statement.{statement}
 use Rattle.tree_boxes.proofs.above.Tie as tie
 
-whole_lowest : (c : tie.Start) → length c.args.t1.lowest ≡ most_operations
+whole_lowest : (c : tie.Start) → length c.args.b.lowest ≡ most_operations
 whole_lowest c = search rules
 
-whole_first : (c : tie.Start) → length c.args.t1.first ≡ most_operations
+whole_first : (c : tie.Start) → length c.args.b.first ≡ most_operations
 whole_first c = search rules
 
-element_copy_out_i : tie.Need-element-copy-out-i
+element_copy_out_i : tie.Need-bounds-node-0
 element_copy_out_i c = search rules
 
-element_copy_out_v : tie.Need-element-copy-out-v
+element_copy_out_v : tie.Need-bounds-node-1
 element_copy_out_v c = search rules
 
-mul_greater_of : tie.Need-overflow-mul-greater-of
+mul_greater_of : tie.Need-offset_bounds-b-i
 mul_greater_of c = search rules
 
-element_copy_out_greater_of : tie.Need-element-copy-out-greater-of
+element_copy_out_greater_of : tie.Need-bounds-b-i
 element_copy_out_greater_of c = search rules
 
-add_greater_of : tie.Need-overflow-add-greater-of
+add_greater_of : tie.Need-overflow_add-v
 add_greater_of c = search rules
 
-greater_of_requires : tie.Need-greater-of-requires
+greater_of_requires : tie.Need-greater_of-requires
 greater_of_requires c κs = search rules
 
-mul_c : tie.Need-overflow-mul-c
+mul_c : tie.Need-offset_bounds-c-i
 mul_c c = search rules
 
-element_write_c : tie.Need-element-write-c
+element_write_c : tie.Need-bounds-c-i
 element_write_c c = search rules
 
-returns : tie.Need-returns
+returns : tie.Need-returns-then-node-eq-SPLIT
 unfolding cut_seen passes.above
 returns c =
     let s = c.before.before.before.before.before in
     let p = s.requires in
     let h = whole_lowest s in
-    let e = c.greater-of.ensures in
-    rw (eq-eqb _ 1 c.before.before.if1.true) (
-      starts_above_box s.args.t1 _ _ _ (omega arith) e,
-      starts_above_small s.args.t1 _ _ p.0 p.1 p.2 _ (omega arith) e,
+    let e = c.greater_of.ensures in
+    rw (eq-eqb _ 1 c.if-node-eq-SPLIT.true) (
+      starts_above_box s.args.b _ _ _ (omega arith) e,
+      starts_above_small s.args.b _ _ p.0 p.1 p.2 _ (omega arith) e,
     )
 
-mul_greater_of_2 : tie.Need-overflow-mul-greater-of-2
+mul_greater_of_2 : tie.Need-offset_bounds-b-i-2
 mul_greater_of_2 c = search rules
 
-element_copy_out_greater_of_2 : tie.Need-element-copy-out-greater-of-2
+element_copy_out_greater_of_2 : tie.Need-bounds-b-i-2
 element_copy_out_greater_of_2 c = search rules
 
-add_greater_of_2 : tie.Need-overflow-add-greater-of-2
+add_greater_of_2 : tie.Need-overflow_add-v-2
 add_greater_of_2 c = search rules
 
-greater_of_requires_2 : tie.Need-greater-of-requires-2
+greater_of_requires_2 : tie.Need-greater_of-requires-2
 greater_of_requires_2 c κs = search rules
 
-mul_c_2 : tie.Need-overflow-mul-c-2
+mul_c_2 : tie.Need-offset_bounds-c-i-2
 mul_c_2 c = search rules
 
-element_write_c_2 : tie.Need-element-write-c-2
+element_write_c_2 : tie.Need-bounds-c-i-2
 element_write_c_2 c = search rules
 
-returns_2 : tie.Need-returns-2
+returns_2 : tie.Need-returns
 unfolding cut_seen passes.above
 returns_2 c =
     let s = c.before.before.before.before.before in
     let p = s.requires in
     let h = whole_first s in
-    rw (ne_eqb _ 1 c.before.before.if1.false) (
-      instances_above_box s.args.t1 _ _ _ (omega arith) c.greater-of2.ensures,
+    rw (ne_eqb _ 1 c.if-node-eq-SPLIT.false) (
+      instances_above_box s.args.b _ _ _ (omega arith) c.greater_of-2.ensures,
       record { lowest = p.2.lowest; highest = p.2.highest },
     )
 
