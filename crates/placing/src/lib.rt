@@ -1,6 +1,8 @@
 // The services on a placing table (modulo reservation table): a new one; an offer of the lowest free instance, which
 // alters nothing; booking an offer; and placing, which is both at once. The table itself, what is free in it and
 // question 10 are in the crate `placing_table`.
+#![tactic(auto)]
+
 ghost use Rattle.std.specs.Prelude.{◌<◌, ◌≡◌};
 ghost use Rattle.sizes.specs.Sizes.{most_operations};
 ghost use Rattle.laws.specs.Says.{Says};
@@ -14,7 +16,7 @@ use sizes::MOST_OPERATIONS;
 
 // The answer, and a table in which nothing is placed.
 #[repr(C)]
-#[derive(Drop)]
+#[derive(Clone, Copy)]
 pub struct NewTable {
     pub answer: usize,
     pub table: Table,
@@ -22,7 +24,7 @@ pub struct NewTable {
 
 // The answer, the instance that the operation got, and the table afterwards.
 #[repr(C)]
-#[derive(Drop)]
+#[derive(Clone, Copy)]
 pub struct PlaceAnswer {
     pub answer: usize,
     pub instance: usize,
@@ -31,7 +33,7 @@ pub struct PlaceAnswer {
 
 // An operation, a start, and an instance for it.
 #[repr(C)]
-#[derive(Drop)]
+#[derive(Clone, Copy)]
 pub struct Offer {
     pub operation: usize,
     pub start: usize,
@@ -40,7 +42,7 @@ pub struct Offer {
 
 // The answer, and the offer; with a refusal all its numbers are 0.
 #[repr(C)]
-#[derive(Drop)]
+#[derive(Clone, Copy)]
 pub struct OfferAnswer {
     pub answer: usize,
     pub offer: Offer,
@@ -202,14 +204,14 @@ pub fn place(sheet: Sheet, interval: usize, table: Table, op: usize, start: usiz
 
 // What a placing answers besides the table.
 #[repr(C)]
-#[derive(Drop)]
+#[derive(Clone, Copy)]
 pub struct Outcome {
     pub answer: usize,
     pub instance: usize,
 }
 
 // What a placing answers, and the one entry that it stores: the operation's or, with a refusal, one as it stands.
-#[derive(Drop)]
+#[derive(Clone, Copy)]
 struct Change {
     answer: usize,
     instance: usize,

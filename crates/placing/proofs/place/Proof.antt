@@ -7,22 +7,22 @@ use Rattle.placing.specs.Answers.{PlaceAt}
 use Rattle.placing.proofs.place.Statement.{statement}
 use Rattle.placing.proofs.place.Tie as tie
 
-make_offer_requires : tie.Need-make-offer-requires
+make_offer_requires : tie.Need-make_offer-made-requires
 make_offer_requires c κs = search rules
 
 refuse_requires : tie.Need-refuse-requires
 refuse_requires c κs = search rules
 
-returns : tie.Need-returns
+returns : tie.Need-returns-then-made-ne0
 returns c =
-    subst (PlaceAt _ _ _ _ _) (sym c.refuse.ensures) (offer_refused c.before.before.before.make-offer.ensures c.before.if1.true)
+    subst (PlaceAt _ _ _ _ _) (sym c.refuse.ensures) (offer_refused c.make_offer-made.ensures c.if-made-ne0.true)
 
 book_requires : tie.Need-book-requires
 book_requires c κs = search rules
 
-returns_2 : tie.Need-returns-2
+returns_2 : tie.Need-returns
 returns_2 c =
-    offer_booked c.before.before.before.before.make-offer.ensures c.before.before.if1.false c.book.ensures
+    offer_booked c.make_offer-made.ensures c.if-made-ne0.false c.book.ensures
 
 pub place_spec : {M : Type 1} → statement M
 place_spec = tie.close (tie.spec make_offer_requires refuse_requires returns book_requires returns_2)
