@@ -1,4 +1,6 @@
 // Writes a loop sheet as text into a lent buffer, line by line.
+#![tactic(auto)]
+
 ghost use Rattle.std.specs.Prelude.{◌≡◌, ◌<◌, ◌≤◌, length, get_or};
 ghost use Rattle.sizes.specs.Sizes.{most_operations, most_starts, most_types};
 ghost use Rattle.text.specs.Text.{over};

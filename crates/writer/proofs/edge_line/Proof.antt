@@ -14,23 +14,23 @@ use borrow.Author.Rules.{rules}
 use Rattle.writer.proofs.edge_line.Statement.{statement}
 use Rattle.writer.proofs.edge_line.Tie as tie
 
-cast_line_of : tie.Need-overflow-cast-line-of
+cast_line_of : tie.Need-overflow_cast-e
 cast_line_of c = search rules
 
-cast_line_of_2 : tie.Need-overflow-cast-line-of-2
+cast_line_of_2 : tie.Need-overflow_cast-e-2
 cast_line_of_2 c = search rules
 
-cast_line_of_3 : tie.Need-overflow-cast-line-of-3
-cast_line_of_3 c = let m = most c.before.before.before.requires.distance in omega arith
+cast_line_of_3 : tie.Need-overflow_cast-e-3
+cast_line_of_3 c = let m = most c.requires.distance in omega arith
 
-line_of_requires : tie.Need-line-of-requires
+line_of_requires : tie.Need-line_of-requires
 line_of_requires c κs = search rules
 
 returns : tie.Need-returns
 unfolding key_of
 returns c =
-    let e = c.before.before.before.before.before.args.e in
-    let p = c.before.before.before.before.before.requires in
+    let e = c.args.e in
+    let p = c.requires in
     let m = most p.distance in
     let f = cast_kept e.from (omega (arith, p.from)) in
     let t = cast_kept e.to (omega (arith, p.to)) in

@@ -17,128 +17,128 @@ use Rattle.writer.proofs.line_at.Statement.{statement}
 use Rattle.writer.proofs.line_at.Tie as tie
 
 -- the arrays hold the entries counted
-fits : (c : tie.Start) → (c.args.t1.type_count ≤ length c.args.t1.types) × (c.args.t1.op_count ≤ length c.args.t1.ops) × (c.args.t1.edge_count ≤ length c.args.t1.edges)
+fits : (c : tie.Start) → (c.args.s.type_count ≤ length c.args.s.types) × (c.args.s.op_count ≤ length c.args.s.ops) × (c.args.s.edge_count ≤ length c.args.s.edges)
 fits c =
     let r = types_most c.requires.0 in
     let n = ops_most c.requires.0 in
     let e = edges_most c.requires.0 in
-    let a : length c.args.t1.types ≡ most_types = sym (length-map c.args.t1.types _) ∙ c.well-formed.0.1.1.1.1.1.0.1.0.1 in
-    let b : length c.args.t1.ops ≡ most_operations = sym (length-map c.args.t1.ops _) ∙ c.well-formed.0.1.1.1.1.1.1.1.0.1.0.1 in
-    let d : length c.args.t1.edges ≡ most_edges = sym (length-map c.args.t1.edges _) ∙ c.well-formed.0.1.1.1.1.1.1.1.1.1.0.1.0.1 in
+    let a : length c.args.s.types ≡ most_types = sym (length-map c.args.s.types _) ∙ c.well_formed.0.1.1.1.1.1.0.1.0.1 in
+    let b : length c.args.s.ops ≡ most_operations = sym (length-map c.args.s.ops _) ∙ c.well_formed.0.1.1.1.1.1.1.1.0.1.0.1 in
+    let d : length c.args.s.edges ≡ most_edges = sym (length-map c.args.s.edges _) ∙ c.well_formed.0.1.1.1.1.1.1.1.1.1.0.1.0.1 in
     (omega arith, omega arith, omega arith)
 
 -- past the other lines stand those of the edges
-edge_below : (c : tie.Start) → 3 ≤ c.args.i → c.args.t1.type_count ≤ c.args.i - 3 → (c.args.i - 3 ≡ c.args.t1.type_count → ⊥)
-    → c.args.t1.op_count ≤ c.args.i - 3 - c.args.t1.type_count - 1 → (c.args.i - 3 - c.args.t1.type_count - 1 ≡ c.args.t1.op_count → ⊥)
-    → c.args.i - 3 - c.args.t1.type_count - 1 - c.args.t1.op_count - 1 < c.args.t1.edge_count
+edge_below : (c : tie.Start) → 3 ≤ c.args.i → c.args.s.type_count ≤ c.args.i - 3 → (c.args.i - 3 ≡ c.args.s.type_count → ⊥)
+    → c.args.s.op_count ≤ c.args.i - 3 - c.args.s.type_count - 1 → (c.args.i - 3 - c.args.s.type_count - 1 ≡ c.args.s.op_count → ⊥)
+    → c.args.i - 3 - c.args.s.type_count - 1 - c.args.s.op_count - 1 < c.args.s.edge_count
 edge_below c h p q u v =
     let f = fits c in
-    let n = line_count_lem c.args.t1 f.0 f.1 f.2 in
-    last_place c.args.i c.args.t1.type_count c.args.t1.op_count c.args.t1.edge_count h p q u v (rw n at c.requires.1)
+    let n = line_count_lem c.args.s f.0 f.1 f.2 in
+    last_place c.args.i c.args.s.type_count c.args.s.op_count c.args.s.edge_count h p q u v (rw n at c.requires.1)
 
 small_place : (x : ℕ) → x < most_edges → x * 32 < 2 ^ 64
 small_place x h = omega arith
 
-head_line_requires : tie.Need-head-line-requires
-head_line_requires c κs = (c.before.requires.0, c.if1.true)
+head_line_requires : tie.Need-head_line-requires
+head_line_requires c κs = (c.requires.0, c.if-i-lt-HEAD_LINES.true)
 
-returns : tie.Need-returns
-returns c = c.head-line.ensures
+returns : tie.Need-returns-then-i-lt-HEAD_LINES
+returns c = c.head_line.ensures
 
-mul_type_line : tie.Need-overflow-mul-type-line
-mul_type_line c = let m = types_most c.before.before.requires.0 in omega arith
+mul_type_line : tie.Need-offset_bounds-s-j
+mul_type_line c = let m = types_most c.requires.0 in omega arith
 
-element_copy_out_type_line : tie.Need-element-copy-out-type-line
-element_copy_out_type_line c = let m = types_most c.before.before.requires.0 in omega arith
+element_copy_out_type_line : tie.Need-bounds-s-j
+element_copy_out_type_line c = let m = types_most c.requires.0 in omega arith
 
-type_line_requires : tie.Need-type-line-requires
-type_line_requires c κs = c.before.before.before.requires.0.each_type (c.before.before.before.args.i - 3) c.before.if2.true
+type_line_requires : tie.Need-type_line-requires
+type_line_requires c κs = c.requires.0.each_type (c.args.i - 3) c.if-j-s.true
 
-returns_2 : tie.Need-returns-2
+returns_2 : tie.Need-returns-then-j-s
 returns_2 c =
     let s = c.before.before.before.before in
     let f = fits s in
-    c.type-line.ensures ∙ ap line_text_of (sym (type_place s.args.t1 f.0 f.1 f.2 s.args.i c.before.before.before.if1.false c.before.before.if2.true))
+    c.type_line.ensures ∙ ap line_text_of (sym (type_place s.args.s f.0 f.1 f.2 s.args.i c.if-i-lt-HEAD_LINES.false c.if-j-s.true))
 
-count_line_requires : tie.Need-count-line-requires
+count_line_requires : tie.Need-count_line-requires
 count_line_requires c κs = search rules
 
-returns_3 : tie.Need-returns-3
+returns_3 : tie.Need-returns-then-j-s-2
 unfolding key_of
 returns_3 c =
     let s = c.before.before.before.before in
     let f = fits s in
     let m = ops_most s.requires.0 in
-    one_number ops_key s.args.t1.op_count (omega arith) c.count-line.ensures ∙ ap line_text_of (sym (ops_place s.args.t1 f.0 f.1 f.2 s.args.i c.before.before.before.if1.false c.before.if3.true))
+    one_number ops_key s.args.s.op_count (omega arith) c.count_line.ensures ∙ ap line_text_of (sym (ops_place s.args.s f.0 f.1 f.2 s.args.i c.if-i-lt-HEAD_LINES.false c.if-j-s-2.true))
 
-sub_k : tie.Need-overflow-sub-k
+sub_k : tie.Need-overflow_sub-k
 sub_k c = omega arith
 
-sub_k_2 : tie.Need-overflow-sub-k-2
+sub_k_2 : tie.Need-overflow_sub-k-2
 sub_k_2 c = omega arith
 
-mul_op_line : tie.Need-overflow-mul-op-line
-mul_op_line c = let m = ops_most c.before.before.before.before.requires.0 in omega arith
+mul_op_line : tie.Need-offset_bounds-s-k
+mul_op_line c = let m = ops_most c.requires.0 in omega arith
 
-element_copy_out_op_line : tie.Need-element-copy-out-op-line
-element_copy_out_op_line c = let m = ops_most c.before.before.before.before.requires.0 in omega arith
+element_copy_out_op_line : tie.Need-bounds-s-k
+element_copy_out_op_line c = let m = ops_most c.requires.0 in omega arith
 
-op_line_requires : tie.Need-op-line-requires
+op_line_requires : tie.Need-op_line-requires
 op_line_requires c κs =
-    let s = c.before.before.before.before.before in
-    let o = s.requires.0.each_op (s.args.i - 3 - s.args.t1.type_count - 1) c.before.if4.true in
+    let s = c in
+    let o = s.requires.0.each_op (s.args.i - 3 - s.args.s.type_count - 1) c.if-k-s.true in
     let h = horizon_most s.requires.0 in
     record { resource = lt_of_lt_of_le o.resource (types_most s.requires.0); lo = lt_of_lt_of_le o.lo h; hi = lt_of_lt_of_le o.hi h }
 
-returns_4 : tie.Need-returns-4
+returns_4 : tie.Need-returns-then-k-s
 returns_4 c =
     let s = c.before.before.before.before.before.before in
     let f = fits s in
-    let p = c.before.before.before.before.if2.false in
-    let q = c.before.before.before.if3.false in
-    c.op-line.ensures ∙ ap line_text_of (sym (op_place s.args.t1 f.0 f.1 f.2 s.args.i c.before.before.before.before.before.if1.false (omega arith) c.before.before.if4.true))
+    let p = c.if-j-s.false in
+    let q = c.if-j-s-2.false in
+    c.op_line.ensures ∙ ap line_text_of (sym (op_place s.args.s f.0 f.1 f.2 s.args.i c.if-i-lt-HEAD_LINES.false (omega arith) c.if-k-s.true))
 
-count_line_requires_2 : tie.Need-count-line-requires-2
+count_line_requires_2 : tie.Need-count_line-requires-then-k-s-2
 count_line_requires_2 c κs = search rules
 
-returns_5 : tie.Need-returns-5
+returns_5 : tie.Need-returns-then-k-s-2
 unfolding key_of
 returns_5 c =
     let s = c.before.before.before.before.before.before in
     let f = fits s in
-    let p = c.before.before.before.before.if2.false in
-    let q = c.before.before.before.if3.false in
+    let p = c.if-j-s.false in
+    let q = c.if-j-s-2.false in
     let m = edges_most s.requires.0 in
-    one_number edges_key s.args.t1.edge_count (omega arith) c.count-line2.ensures ∙ ap line_text_of (sym (edges_place s.args.t1 f.0 f.1 f.2 s.args.i c.before.before.before.before.before.if1.false (omega arith) c.before.if5.true))
+    one_number edges_key s.args.s.edge_count (omega arith) c.count_line-then-k-s-2.ensures ∙ ap line_text_of (sym (edges_place s.args.s f.0 f.1 f.2 s.args.i c.if-i-lt-HEAD_LINES.false (omega arith) c.if-k-s-2.true))
 
-sub_edge_line : tie.Need-overflow-sub-edge-line
+sub_edge_line : tie.Need-overflow_sub-k-3
 sub_edge_line c = omega arith
 
-sub_edge_line_2 : tie.Need-overflow-sub-edge-line-2
+sub_edge_line_2 : tie.Need-overflow_sub-k-4
 sub_edge_line_2 c = omega arith
 
-mul_edge_line : tie.Need-overflow-mul-edge-line
-mul_edge_line c = record { fits = small_place _ (lt_of_lt_of_le (edge_below c.before.before.before.before.before c.before.before.before.before.if1.false c.before.before.before.if2.false c.before.before.if3.false c.before.if4.false c.if5.false) (edges_most c.before.before.before.before.before.requires.0)) }
+mul_edge_line : tie.Need-offset_bounds-s-k-2
+mul_edge_line c = record { fits = small_place _ (lt_of_lt_of_le (edge_below c.before.before.before.before.before c.if-i-lt-HEAD_LINES.false c.if-j-s.false c.if-j-s-2.false c.if-k-s.false c.if-k-s-2.false) (edges_most c.requires.0)) }
 
-element_copy_out_edge_line : tie.Need-element-copy-out-edge-line
-element_copy_out_edge_line c = lt_of_lt_of_le (edge_below c.before.before.before.before.before c.before.before.before.before.if1.false c.before.before.before.if2.false c.before.before.if3.false c.before.if4.false c.if5.false) (edges_most c.before.before.before.before.before.requires.0)
+element_copy_out_edge_line : tie.Need-bounds-s-k-2
+element_copy_out_edge_line c = lt_of_lt_of_le (edge_below c.before.before.before.before.before c.if-i-lt-HEAD_LINES.false c.if-j-s.false c.if-j-s-2.false c.if-k-s.false c.if-k-s-2.false) (edges_most c.requires.0)
 
-edge_line_requires : tie.Need-edge-line-requires
+edge_line_requires : tie.Need-edge_line-requires
 edge_line_requires c κs =
     let s = c.before.before.before.before.before.before in
     let o = ops_most s.requires.0 in
-    let e = s.requires.0.each_edge _ (edge_below s c.before.before.before.before.before.if1.false c.before.before.before.before.if2.false c.before.before.before.if3.false c.before.before.if4.false c.before.if5.false) in
+    let e = s.requires.0.each_edge _ (edge_below s c.if-i-lt-HEAD_LINES.false c.if-j-s.false c.if-j-s-2.false c.if-k-s.false c.if-k-s-2.false) in
     record { from = lt_of_lt_of_le e.from o; to = lt_of_lt_of_le e.to o; delay = e.delay; distance = e.distance }
 
-returns_6 : tie.Need-returns-6
+returns_6 : tie.Need-returns
 returns_6 c =
     let s = c.before.before.before.before.before.before.before in
     let f = fits s in
-    let p = c.before.before.before.before.before.if2.false in
-    let q = c.before.before.before.before.if3.false in
-    let u = c.before.before.before.if4.false in
-    let v = c.before.before.if5.false in
-    c.edge-line.ensures ∙ ap line_text_of (sym (edge_place s.args.t1 f.0 f.1 f.2 s.args.i c.before.before.before.before.before.before.if1.false (omega arith) (omega arith) s.requires.1))
+    let p = c.if-j-s.false in
+    let q = c.if-j-s-2.false in
+    let u = c.if-k-s.false in
+    let v = c.if-k-s-2.false in
+    c.edge_line.ensures ∙ ap line_text_of (sym (edge_place s.args.s f.0 f.1 f.2 s.args.i c.if-i-lt-HEAD_LINES.false (omega arith) (omega arith) s.requires.1))
 
 pub line_at_spec : {M : Type 1} → statement M
 line_at_spec =

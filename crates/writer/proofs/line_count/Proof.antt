@@ -9,36 +9,36 @@ use native.Mathlib.Omega.{arith}
 use Rattle.writer.proofs.line_count.Statement.{statement}
 use Rattle.writer.proofs.line_count.Tie as tie
 
-add_result : tie.Need-overflow-add-result
+add_result : tie.Need-overflow_add-result
 add_result c =
-    let r = types_most c.before.requires in
-    let n = ops_most c.before.requires in
-    let e = edges_most c.before.requires in
+    let r = types_most c.requires in
+    let n = ops_most c.requires in
+    let e = edges_most c.requires in
     omega arith
 
-add_result_2 : tie.Need-overflow-add-result-2
+add_result_2 : tie.Need-overflow_add-result-2
 add_result_2 c =
-    let r = types_most c.before.before.requires in
-    let n = ops_most c.before.before.requires in
-    let e = edges_most c.before.before.requires in
+    let r = types_most c.requires in
+    let n = ops_most c.requires in
+    let e = edges_most c.requires in
     omega arith
 
-add_result_3 : tie.Need-overflow-add-result-3
+add_result_3 : tie.Need-overflow_add-result-3
 add_result_3 c =
-    let r = types_most c.before.before.before.requires in
-    let n = ops_most c.before.before.before.requires in
-    let e = edges_most c.before.before.before.requires in
+    let r = types_most c.requires in
+    let n = ops_most c.requires in
+    let e = edges_most c.requires in
     omega arith
 
 returns : tie.Need-returns
 returns c =
-    let s = c.before.before.before.args.s in
-    let r = types_most c.before.before.before.requires in
-    let n = ops_most c.before.before.before.requires in
-    let e = edges_most c.before.before.before.requires in
-    let a : length s.types ≡ most_types = sym (length-map s.types _) ∙ c.before.before.before.well-formed.0.1.1.1.1.1.0.1.0.1 in
-    let b : length s.ops ≡ most_operations = sym (length-map s.ops _) ∙ c.before.before.before.well-formed.0.1.1.1.1.1.1.1.0.1.0.1 in
-    let d : length s.edges ≡ most_edges = sym (length-map s.edges _) ∙ c.before.before.before.well-formed.0.1.1.1.1.1.1.1.1.1.0.1.0.1 in
+    let s = c.args.s in
+    let r = types_most c.requires in
+    let n = ops_most c.requires in
+    let e = edges_most c.requires in
+    let a : length s.types ≡ most_types = sym (length-map s.types _) ∙ c.well_formed.0.1.1.1.1.1.0.1.0.1 in
+    let b : length s.ops ≡ most_operations = sym (length-map s.ops _) ∙ c.well_formed.0.1.1.1.1.1.1.1.0.1.0.1 in
+    let d : length s.edges ≡ most_edges = sym (length-map s.edges _) ∙ c.well_formed.0.1.1.1.1.1.1.1.1.1.0.1.0.1 in
     (sym (line_count_lem s (omega arith) (omega arith) (omega arith)), omega arith)
 
 pub line_count_spec : {M : Type 1} → statement M

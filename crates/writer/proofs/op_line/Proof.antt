@@ -11,22 +11,22 @@ use borrow.Author.Rules.{rules}
 use Rattle.writer.proofs.op_line.Statement.{statement}
 use Rattle.writer.proofs.op_line.Tie as tie
 
-cast_line_of : tie.Need-overflow-cast-line-of
+cast_line_of : tie.Need-overflow_cast-o
 cast_line_of c = search rules
 
-cast_line_of_2 : tie.Need-overflow-cast-line-of-2
+cast_line_of_2 : tie.Need-overflow_cast-o-2
 cast_line_of_2 c = search rules
 
-cast_line_of_3 : tie.Need-overflow-cast-line-of-3
+cast_line_of_3 : tie.Need-overflow_cast-o-3
 cast_line_of_3 c = search rules
 
-line_of_requires : tie.Need-line-of-requires
+line_of_requires : tie.Need-line_of-requires
 line_of_requires c κs = search rules
 
 returns : tie.Need-returns
 unfolding key_of
 returns c =
-    let s = c.before.before.before.before in
+    let s = c in
     let o = s.args.o in
     let r = cast_kept o.resource (omega (arith, s.requires.resource)) in
     let l = cast_kept o.lo (omega (arith, s.requires.lo)) in

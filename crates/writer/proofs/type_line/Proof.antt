@@ -12,22 +12,22 @@ use borrow.Author.Rules.{rules}
 use Rattle.writer.proofs.type_line.Statement.{statement}
 use Rattle.writer.proofs.type_line.Tie as tie
 
-cast_line_of : tie.Need-overflow-cast-line-of
-cast_line_of c = let m = most c.before.requires.instances in omega arith
+cast_line_of : tie.Need-overflow_cast-t
+cast_line_of c = let m = most c.requires.instances in omega arith
 
-cast_line_of_2 : tie.Need-overflow-cast-line-of-2
-cast_line_of_2 c = let m = most c.before.before.requires.latency in omega arith
+cast_line_of_2 : tie.Need-overflow_cast-t-2
+cast_line_of_2 c = let m = most c.requires.latency in omega arith
 
-cast_line_of_3 : tie.Need-overflow-cast-line-of-3
-cast_line_of_3 c = let m = most c.before.before.before.requires.busy in omega arith
+cast_line_of_3 : tie.Need-overflow_cast-t-3
+cast_line_of_3 c = let m = most c.requires.busy in omega arith
 
-line_of_requires : tie.Need-line-of-requires
+line_of_requires : tie.Need-line_of-requires
 line_of_requires c κs = search rules
 
 returns : tie.Need-returns
 unfolding key_of
 returns c =
-    let s = c.before.before.before.before in
+    let s = c in
     let t = s.args.t in
     let a = cast_kept t.instances (omega (arith, most s.requires.instances)) in
     let d = cast_kept t.latency (omega (arith, most s.requires.latency)) in
