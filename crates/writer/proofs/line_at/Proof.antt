@@ -3,7 +3,7 @@
 use Prim.Native.Nat.{ℕ, ◌*◌, ◌-◌, ◌^◌, ◌≤◌, ◌<◌}
 use native.Mathlib.Nat.{lt_of_lt_of_le}
 use mathlib.Core.Path.{◌≡◌, sym, ap, ◌∙◌}
-use lib.ListN.{length, length-map}
+use lib.ListN.{length}
 use Rattle.sizes.specs.Sizes.{most_types, most_operations, most_edges}
 use Rattle.text.specs.Keys.{ops_key, edges_key}
 use Rattle.text.specs.Line.{key_of}
@@ -22,9 +22,9 @@ fits c =
     let r = types_most c.requires.0 in
     let n = ops_most c.requires.0 in
     let e = edges_most c.requires.0 in
-    let a : length c.args.s.types ≡ most_types = sym (length-map c.args.s.types _) ∙ c.well_formed.0.1.1.1.1.1.0.1.0.1 in
-    let b : length c.args.s.ops ≡ most_operations = sym (length-map c.args.s.ops _) ∙ c.well_formed.0.1.1.1.1.1.1.1.0.1.0.1 in
-    let d : length c.args.s.edges ≡ most_edges = sym (length-map c.args.s.edges _) ∙ c.well_formed.0.1.1.1.1.1.1.1.1.1.0.1.0.1 in
+    let a : length c.args.s.types ≡ most_types = c.well_formed.0.1.1.1.1.1.0.1.0.1 in
+    let b : length c.args.s.ops ≡ most_operations = c.well_formed.0.1.1.1.1.1.1.1.0.1.0.1 in
+    let d : length c.args.s.edges ≡ most_edges = c.well_formed.0.1.1.1.1.1.1.1.1.1.0.1.0.1 in
     (omega arith, omega arith, omega arith)
 
 -- past the other lines stand those of the edges

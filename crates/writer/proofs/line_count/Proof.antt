@@ -1,7 +1,7 @@
 -- `writer::line_count` meets its contract.
 -- From the ranges of the counts.
-use mathlib.Core.Path.{◌≡◌, sym, ◌∙◌}
-use lib.ListN.{length, length-map}
+use mathlib.Core.Path.{◌≡◌, sym}
+use lib.ListN.{length}
 use Rattle.sizes.specs.Sizes.{most_types, most_operations, most_edges}
 use Rattle.sheet.specs.Facts.{types_most, ops_most, edges_most}
 use Rattle.writer.specs.Lines.{line_count_lem}
@@ -36,9 +36,9 @@ returns c =
     let r = types_most c.requires in
     let n = ops_most c.requires in
     let e = edges_most c.requires in
-    let a : length s.types ≡ most_types = sym (length-map s.types _) ∙ c.well_formed.0.1.1.1.1.1.0.1.0.1 in
-    let b : length s.ops ≡ most_operations = sym (length-map s.ops _) ∙ c.well_formed.0.1.1.1.1.1.1.1.0.1.0.1 in
-    let d : length s.edges ≡ most_edges = sym (length-map s.edges _) ∙ c.well_formed.0.1.1.1.1.1.1.1.1.1.0.1.0.1 in
+    let a : length s.types ≡ most_types = c.well_formed.0.1.1.1.1.1.0.1.0.1 in
+    let b : length s.ops ≡ most_operations = c.well_formed.0.1.1.1.1.1.1.1.0.1.0.1 in
+    let d : length s.edges ≡ most_edges = c.well_formed.0.1.1.1.1.1.1.1.1.1.0.1.0.1 in
     (sym (line_count_lem s (omega arith) (omega arith) (omega arith)), omega arith)
 
 pub line_count_spec : {M : Type 1} → statement M
