@@ -2,6 +2,8 @@
 // its columns, and who uses an instance; `page_writer` puts the lines together.
 // An inner layer, a crate of its own for the check's time. Caller: `page_writer`, for a sheet and an interval that are
 // accepted.
+#![tactic(auto)]
+
 mod columns; // columns.rt: text in columns
 mod users; // users.rt: who uses an instance
 

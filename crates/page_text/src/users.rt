@@ -9,7 +9,7 @@ use sheet::Sheet;
 use sizes::MOST_INSTANCES;
 
 // For each instance of a type its user in a slot: the operation's number plus 1, 0 for none.
-#[derive(Drop)]
+#[derive(Clone, Copy)]
 pub struct Users {
     pub of: [usize; MOST_INSTANCES],
 }

@@ -10,36 +10,36 @@ use borrow.Author.Rules.{rules}
 use Rattle.page_text.proofs.columns.put_at.Statement.{statement}
 use Rattle.page_text.proofs.columns.put_at.Tie as tie
 
-sub_put_text : tie.Need-overflow-sub-put-text
+sub_put_text : tie.Need-slice_bounds-put_text-count
 sub_put_text c = search rules
 
-part_put_text_start : tie.Need-slice-bounds-put-text-start
+part_put_text_start : tie.Need-slice_bounds-put_text-start
 part_put_text_start c = search rules
 
-part_put_text_end : tie.Need-slice-bounds-put-text-end
+part_put_text_end : tie.Need-slice_bounds-put_text-end
 part_put_text_end c = search rules
 
-put_text_requires : tie.Need-put-text-requires
+put_text_requires : tie.Need-put_text-written-requires
 put_text_requires c κs = search rules
 
-add_result : tie.Need-overflow-add-result
+add_result : tie.Need-overflow_add-result
 add_result c =
-    let s = c.before.before.before.before.before.before.before in
+    let s = c in
     let a = s.args in
-    let p = c.before.before.before.put-text in
+    let p = c.put_text-written in
     let h = s.requires in
     let n = part_length a.out.now a.at (omega arith) in
     let k : p.result.count ≡ length a.bytes.now = whole_count a.bytes.now (take (length a.out.now - a.at) (drop a.at a.out.now)) (omega arith) p.ensures.0 in
-    omega (arith, k, s.well-formed.0.0)
+    omega (arith, k, s.well_formed.0.0)
 
-same_length : tie.Need-same-length
+same_length : tie.Need-shape_of-out
 same_length c = search rules
 
 returns : tie.Need-returns
 returns c =
-    let s = c.before.before.before.before.before.before.before in
+    let s = c in
     let a = s.args in
-    let p = c.before.before.before.put-text in
+    let p = c.put_text-written in
     let h = s.requires in
     let n = part_length a.out.now a.at (omega arith) in
     let part = take (length a.out.now - a.at) (drop a.at a.out.now) in

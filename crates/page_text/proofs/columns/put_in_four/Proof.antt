@@ -10,28 +10,28 @@ use borrow.Author.Rules.{rules}
 use Rattle.page_text.proofs.columns.put_in_four.Statement.{statement}
 use Rattle.page_text.proofs.columns.put_in_four.Tie as tie
 
-in_five_requires : tie.Need-in-five-requires
+in_five_requires : tie.Need-in_five-bytes-requires
 in_five_requires c κs = search rules
 
-sub_put_at : tie.Need-overflow-sub-put-at
+sub_put_at : tie.Need-slice_bounds-put_at-count
 sub_put_at c = search rules
 
-part_put_at_start : tie.Need-slice-bounds-put-at-start
+part_put_at_start : tie.Need-slice_bounds-put_at-start
 part_put_at_start c = search rules
 
-part_put_at_end : tie.Need-slice-bounds-put-at-end
+part_put_at_end : tie.Need-slice_bounds-put_at-end
 part_put_at_end c = search rules
 
-put_at_requires : tie.Need-put-at-requires
+put_at_requires : tie.Need-put_at-requires
 put_at_requires c κs = search rules
 
-same_length : tie.Need-same-length
+same_length : tie.Need-shape_of-out
 same_length c = search rules
 
 returns : tie.Need-returns
 returns c =
-    let s = c.before.before.before.before.before.before.before.before in
-    pasted_as (ap (λ (xs : List ℕ). take 4 (drop 1 xs)) (c.before.before.before.before.before.before.in-five.ensures ∙ five_bytes s.args.n s.requires.0) ∙ sym (four_bytes s.args.n s.requires.0)) c.before.before.put-at.ensures
+    let s = c in
+    pasted_as (ap (λ (xs : List ℕ). take 4 (drop 1 xs)) (c.in_five-bytes.ensures ∙ five_bytes s.args.n s.requires.0) ∙ sym (four_bytes s.args.n s.requires.0)) c.put_at.ensures
 
 pub put_in_four_spec : {M : Type 1} → statement M
 put_in_four_spec =
