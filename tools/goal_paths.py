@@ -85,12 +85,19 @@ class Paths:
             return [self.new[place][:1].lower() + self.new[place][1:]] + rest
         return [self.step[place][1]] + rest
 
+    def older(self, at):
+        """The place, or the one before it where an older Rattle had none."""
+        while at in self.step and re.match(r"way[-_]told\d*$", self.step[at][0] or ""):
+            at = self.prev.get(at)
+        return at
+
     def read(self, at, parts):
         """Where old parts lead from a place: ('place', P), ('step', P, rest) or ('start', parts)."""
         parts = list(parts)
+        at = self.older(at)
         while parts and parts[0] == "before":
             parts.pop(0)
-            at = self.prev.get(at) or at
+            at = self.older(self.prev.get(at) or at)
         if not parts:
             return ("place", at)
         place = self.holder(at, parts[0])

@@ -12,7 +12,7 @@ use sheet::Sheet;
 use sizes::MOST_EDGES;
 
 // The end of a chain and its sum; not ok, and both 0, if an edge does not begin where the one before it ended.
-#[derive(Drop)]
+#[derive(Clone, Copy)]
 pub struct Walked {
     pub ok: bool,
     pub end: usize,

@@ -5,6 +5,8 @@
 // Caller: `tree_judge`, which is asked about such a sheet and interval alone. Its nodes are read by `tree_lines`, which
 // lets through none with an operation or an edge that the sheet lacks, and no number of more than four digits. Its
 // bounds come from `tree_boxes`, which keeps them small.
+#![tactic(auto)]
+
 mod chain;
 mod leaf;
 

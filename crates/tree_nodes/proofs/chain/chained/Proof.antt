@@ -16,38 +16,38 @@ use Rattle.tree_nodes.proofs.chain.chained.Statement.{statement}
 use Rattle.tree_nodes.proofs.chain.chained.Tie as tie
 
 -- of the sheet's graph
-in_range_lem : (c : tie.After-graph-of) → InRange c.graph-of.result
-in_range_lem c = subst InRange (sym c.graph-of.ensures) (graph_in_range c.before.requires.0.0)
+in_range_lem : (c : tie.After-graph_of-graph) → InRange c.graph_of-graph.result
+in_range_lem c = subst InRange (sym c.graph_of-graph.ensures) (graph_in_range c.requires.0.0)
 
-found : (c : tie.After-totals) →
-    let g = c.before in
-    Totals g.graph-of.result g.before.args.interval c.totals.result.values
+found : (c : tie.After-totals-found) →
+    let g = c in
+    Totals g.graph_of-graph.result g.args.interval c.totals-found.result.values
 found c =
-    let p = c.before.before.requires.0 in
-    totals_are (in_range_lem c.before) (interval_in_range p.0 p.1) c.totals.ensures
+    let p = c.requires.0 in
+    totals_are (in_range_lem c.before) (interval_in_range p.0 p.1) c.totals-found.ensures
 
 abbrev edges : tie.Start → List ℕ
 edges c = drop c.args.from (take c.args.count c.args.values.now)
 
-below : (c : tie.After-graph-of) → Below c.graph-of.result.edge_count (edges c.before)
+below : (c : tie.After-graph_of-graph) → Below c.graph_of-graph.result.edge_count (edges c.before)
 below c =
     let s = c.before in
-    subst (λ (g : Graph). Below g.edge_count (edges s)) (sym c.graph-of.ensures) s.requires.1.1
+    subst (λ (g : Graph). Below g.edge_count (edges s)) (sym c.graph_of-graph.ensures) s.requires.1.1
 
-graph_of_requires : tie.Need-graph-of-requires
+graph_of_requires : tie.Need-graph_of-graph-requires
 graph_of_requires c κs = search rules
 
-totals_requires : tie.Need-totals-requires
+totals_requires : tie.Need-totals-found-requires
 totals_requires c κs = search rules
 
 follow_requires : tie.Need-follow-requires
 follow_requires c κs =
     let t = c.before.before in
     let g = t.before in
-    let p = g.before.requires.0 in
+    let p = g.requires.0 in
     let iv = interval_in_range p.0 p.1 in
-    let start = subst (λ (x : Graph). g.before.args.start < x.ops) (sym g.graph-of.ensures) p.2 in
-    ((in_range_lem g, totals_near (in_range_lem g) iv (found t), start), (g.before.requires.1.0, below g))
+    let start = subst (λ (x : Graph). g.args.start < x.ops) (sym g.graph_of-graph.ensures) p.2 in
+    ((in_range_lem g, totals_near (in_range_lem g) iv (found t), start), (g.requires.1.0, below g))
 
 returns : tie.Need-returns
 returns c =
@@ -55,7 +55,7 @@ returns c =
     let g = t.before in
     let s = g.before in
     subst (λ (x : Graph). Followed x s.args.interval s.args.start (edges s) c.follow.result)
-    g.graph-of.ensures
+    g.graph_of-graph.ensures
     (followed (found t) (below g) c.follow.ensures.0 c.follow.ensures.1)
 
 pub chained_spec : {M : Type 1} → statement M

@@ -18,125 +18,125 @@ use Rattle.tree_nodes.specs.Chain.{walk_on, walk_off, walk_done, front, past, be
 use Rattle.tree_nodes.proofs.chain.follow.Statement.{statement}
 use Rattle.tree_nodes.proofs.chain.follow.Tie as tie
 
-abbrev invariant_loop : tie.invariant_loop
+abbrev invariant_loop : tie.invariant-loop-p
 invariant_loop totals values from count start graph w₀ p₀ w p =
     let rest : ℕ → List ℕ = λ k. drop k (take count values) in
     (p ≤ most_items) × (w.ok ≡ true) × Below graph.edge_count (rest p)
     × (walk_from graph totals w.end w.sum (rest p) ≡ walk_from graph totals start (pos 0) (rest from))
     × Walking p graph.ops w
 
-abbrev decreases_loop : tie.decreases_loop
+abbrev decreases_loop : tie.decreases-loop-p
 decreases_loop totals values from count start graph w₀ p₀ w p = count - p
 
 whole : (c : tie.Start invariant_loop decreases_loop) → length c.args.values.now ≡ most_items
 whole c = c.requires.1.0.2
 
 -- what is left begins with the edge at p
-begun : (c : tie.In-loop invariant_loop decreases_loop) →
-    let xs = c.before.before.args.values.now in
-    let n = c.before.before.args.count in
-    let p = c.before.loop.p in
+begun : (c : tie.In-loop-p invariant_loop decreases_loop) →
+    let xs = c.args.values.now in
+    let n = c.args.count in
+    let p = c.loop-p.p in
     drop p (take n xs) ≡ get_or xs p 0 ∷ drop (p + 1) (take n xs)
 begun c =
     let s = c.before.before in
     let h = whole s in
-    front s.args.count c.before.loop.p s.args.values.now (omega arith) c.loop-test.true
+    front s.args.count c.loop-p.p s.args.values.now (omega arith) c.loop-p-test.true
 
 -- which is the graph's
-known : (c : tie.In-loop invariant_loop decreases_loop) →
-    let a = c.before.before.args in
-    get_or a.values.now c.before.loop.p 0 < a.t1.edge_count
-known c = below_first (begun c) c.before.loop.invariant.2
+known : (c : tie.In-loop-p invariant_loop decreases_loop) →
+    let a = c.args in
+    get_or a.values.now c.loop-p.p 0 < a.graph.edge_count
+known c = below_first (begun c) c.loop-p.invariant.2
 
 -- with a total near 0
-near : (c : tie.In-loop invariant_loop decreases_loop) →
-    let a = c.before.before.args in
-    Within most_weight (at a.totals.now (get_or a.values.now c.before.loop.p 0))
-near c = c.before.before.requires.0.1 _ (known c)
+near : (c : tie.In-loop-p invariant_loop decreases_loop) →
+    let a = c.args in
+    Within most_weight (at a.totals.now (get_or a.values.now c.loop-p.p 0))
+near c = c.requires.0.1 _ (known c)
 
-loop_holds : tie.Need-loop-init invariant_loop decreases_loop
+loop_holds : tie.Need-loop-p-init invariant_loop decreases_loop
 loop_holds c =
     let p = c.requires in
     (p.1.0.0, refl, p.1.1, refl, record { end = p.0.2; sum = within_zero })
 
-mul_k : tie.Need-overflow-mul-k invariant_loop decreases_loop
+mul_k : tie.Need-offset_bounds-values-p invariant_loop decreases_loop
 mul_k c = omega arith
 
-element_copy_out_k : tie.Need-element-copy-out-k invariant_loop decreases_loop
+element_copy_out_k : tie.Need-bounds-values-p invariant_loop decreases_loop
 element_copy_out_k c = omega arith
 
-mul_e : tie.Need-overflow-mul-e invariant_loop decreases_loop
-mul_e c = omega (arith, known c.before, c.before.before.before.requires.0.0.count_ok)
+mul_e : tie.Need-offset_bounds-graph-k invariant_loop decreases_loop
+mul_e c = omega (arith, known c.before.before, c.requires.0.0.count_ok)
 
-element_copy_out_e : tie.Need-element-copy-out-e invariant_loop decreases_loop
-element_copy_out_e c = omega (arith, known c.before, c.before.before.before.requires.0.0.count_ok)
+element_copy_out_e : tie.Need-bounds-graph-k invariant_loop decreases_loop
+element_copy_out_e c = omega (arith, known c.before.before, c.requires.0.0.count_ok)
 
-returns : tie.Need-returns invariant_loop decreases_loop
+returns : tie.Need-returns-then-e-w invariant_loop decreases_loop
 unfolding seen_walk
 returns c =
-    let t = c.before.before.before.before.before in
-    let l = t.before.loop in
-    let s = t.before.before in (
-      walk_off s.args.t1 s.args.totals.now l.w.end l.w.sum (begun t) c.if1.true ∙ l.invariant.3,
+    let t = c.before.before.before.before.before.before in
+    let l = t.loop-p in
+    let s = t in (
+      walk_off s.args.graph s.args.totals.now l.w.end l.w.sum (begun t) c.if-e-w.true ∙ l.invariant.3,
       record { end = omega (arith, l.invariant.4.end); sum = within_zero },
     )
 
-mul_t16 : tie.Need-overflow-mul-t16 invariant_loop decreases_loop
+mul_t16 : tie.Need-offset_bounds-totals-k invariant_loop decreases_loop
 mul_t16 c =
-    let t = c.before.before.before.before.before in
-    omega (arith, known t, t.before.before.requires.0.0.count_ok)
+    let t = c.before.before.before.before.before.before in
+    omega (arith, known t, t.requires.0.0.count_ok)
 
-element_copy_out_t22 : tie.Need-element-copy-out-t22 invariant_loop decreases_loop
+element_copy_out_t22 : tie.Need-bounds-totals-k invariant_loop decreases_loop
 element_copy_out_t22 c =
-    let t = c.before.before.before.before.before in
-    omega (arith, known t, t.before.before.requires.0.0.count_ok)
+    let t = c.before.before.before.before.before.before in
+    omega (arith, known t, t.requires.0.0.count_ok)
 
-add_t23 : tie.Need-overflow-add-t23 invariant_loop decreases_loop
+add_t23 : tie.Need-overflow_add-w invariant_loop decreases_loop
 add_t23 c =
-    let t = c.before.before.before.before.before.before.before.before in
-    let l = t.before.loop in
+    let t = c.before.before.before.before.before.before.before.before.before in
+    let l = t.loop-p in
     let n = near t in
     let m = l.invariant.4.sum in
-    let h = t.loop-test.true in
-    let k = t.before.before.requires.1.0.1 in
+    let h = t.loop-p-test.true in
+    let k = t.requires.1.0.1 in
     rw (kept {z = l.w.sum} (within_fits (omega arith) m), kept (within_fits (omega arith) n))
     (within_fits (omega arith) (within_sum m n))
 
-add_p : tie.Need-overflow-add-p invariant_loop decreases_loop
+add_p : tie.Need-overflow_add-p invariant_loop decreases_loop
 add_p c =
-    let t = c.before.before.before.before.before.before.before.before in
-    omega (arith, t.loop-test.true, t.before.before.requires.1.0.1)
+    let t = c in
+    omega (arith, t.loop-p-test.true, t.requires.1.0.1)
 
-loop_less : tie.Need-loop-smaller invariant_loop decreases_loop
-loop_less c = omega (arith, c.before.before.before.before.before.before.before.before.loop-test.true)
+loop_less : tie.Need-loop-p-smaller invariant_loop decreases_loop
+loop_less c = omega (arith, c.loop-p-test.true)
 
-loop_again : tie.Need-loop-preserved invariant_loop decreases_loop
+loop_again : tie.Need-loop-p-preserved invariant_loop decreases_loop
 loop_again c =
-    let t = c.before.before.before.before.before.before.before.before in
-    let l = t.before.loop in
-    let s = t.before.before in
+    let t = c.before.before.before.before.before.before.before.before.before in
+    let l = t.loop-p in
+    let s = t in
     let n = near t in
     let m = l.invariant.4.sum in
-    let h = t.loop-test.true in
+    let h = t.loop-p-test.true in
     let k = s.requires.1.0.1 in
-    let met = c.before.before.before.if1.false in
+    let met = c.if-e-w.false in
     rw (kept (add_t23 c), kept {z = l.w.sum} (within_fits (omega arith) m), kept (within_fits (omega arith) n)) (
       omega arith,
       refl,
       below_rest (begun t) l.invariant.2,
-      walk_on s.args.t1 s.args.totals.now l.w.end l.w.sum (begun t) met ∙ l.invariant.3,
+      walk_on s.args.graph s.args.totals.now l.w.end l.w.sum (begun t) met ∙ l.invariant.3,
       record { end = (s.requires.0.0.edge_ok _ (known t)).to_ok; sum = within_more (omega arith) (within_sum m n) },
     )
 
-returns_2 : tie.Need-returns-2 invariant_loop decreases_loop
+returns_2 : tie.Need-returns invariant_loop decreases_loop
 unfolding seen_walk
 returns_2 c =
-    let l = c.before.loop in
+    let l = c.loop-p in
     let s = c.before.before in
     let h = whole s in
-    let q = past s.args.count l.p s.args.values.now (omega arith) c.loop-test.false in
+    let q = past s.args.count l.p s.args.values.now (omega arith) c.loop-p-test.false in
     rw l.invariant.1 (
-      walk_done s.args.t1 s.args.totals.now l.w.end l.w.sum q ∙ l.invariant.3,
+      walk_done s.args.graph s.args.totals.now l.w.end l.w.sum q ∙ l.invariant.3,
       record { end = l.invariant.4.end; sum = within_more (omega (arith, l.invariant.0)) l.invariant.4.sum },
     )
 

@@ -11,22 +11,22 @@ use Rattle.tree_lines.specs.Node.{cut_seen}
 use Rattle.tree_nodes.proofs.leaf.cut_allowed.Statement.{statement}
 use Rattle.tree_nodes.proofs.leaf.cut_allowed.Tie as tie
 
-returns : tie.Need-returns
+returns : tie.Need-returns-then-node-eq-SPLIT
 unfolding Allowed rules_at cut_seen
-returns c = rw (eq-eqb _ 1 c.if1.true) (yes_says tt)
+returns c = rw (eq-eqb _ 1 c.if-node-eq-SPLIT.true) (yes_says tt)
 
-element_copy_out_instances_of : tie.Need-element-copy-out-instances-of
+element_copy_out_instances_of : tie.Need-bounds-node-0
 element_copy_out_instances_of c = search rules
 
-instances_of_requires : tie.Need-instances-of-requires
+instances_of_requires : tie.Need-instances_of-requires
 instances_of_requires c κs = search rules
 
-returns_2 : tie.Need-returns-2
+returns_2 : tie.Need-returns
 unfolding Allowed rules_at cut_seen
 returns_2 c =
-    let e = c.instances-of.ensures in
-    rw (ne_eqb _ 1 c.before.before.if1.false)
-    (last (lt_says 0 c.instances-of.result) (λ h. omega arith) (λ h. omega arith))
+    let e = c.instances_of.ensures in
+    rw (ne_eqb _ 1 c.if-node-eq-SPLIT.false)
+    (last (lt_says 0 c.instances_of.result) (λ h. omega arith) (λ h. omega arith))
 
 pub cut_allowed_spec : {M : Type 1} → statement M
 cut_allowed_spec =

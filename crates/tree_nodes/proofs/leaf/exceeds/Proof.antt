@@ -9,10 +9,10 @@ use Rattle.tree_nodes.specs.Leaves.{less_says}
 use Rattle.tree_nodes.proofs.leaf.exceeds.Statement.{statement}
 use Rattle.tree_nodes.proofs.leaf.exceeds.Tie as tie
 
-cast_result : tie.Need-overflow-cast-result
+cast_result : tie.Need-overflow_cast-result
 cast_result c = search rules
 
-add_result : tie.Need-overflow-add-result
+add_result : tie.Need-overflow_add-result
 add_result c =
     let a = c.args in
     let l : Within most_bound (pos a.lowest) = record { high = omega arith; low = omega arith } in

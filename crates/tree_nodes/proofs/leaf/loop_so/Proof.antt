@@ -25,42 +25,42 @@ begun c =
     let p = c.requires in
     front c.args.count 0 c.args.values.now (omega (arith, p.0.3, p.1.0)) p.0.2
 
-known : (c : tie.Start) → get_or c.args.values.now 0 0 < c.args.t1.edge_count
+known : (c : tie.Start) → get_or c.args.values.now 0 0 < c.args.sheet.edge_count
 known c = below_first (begun c) c.requires.1.1
 
-element_copy_out_k : tie.Need-element-copy-out-k
+element_copy_out_k : tie.Need-bounds-values-0
 element_copy_out_k c = search rules
 
-mul_e : tie.Need-overflow-mul-e
-mul_e c = omega (arith, known c.before, edges_most c.before.requires.0.0)
+mul_e : tie.Need-offset_bounds-sheet-k
+mul_e c = omega (arith, known c.before.before, edges_most c.requires.0.0)
 
-element_copy_out_e : tie.Need-element-copy-out-e
-element_copy_out_e c = omega (arith, known c.before, edges_most c.before.requires.0.0)
+element_copy_out_e : tie.Need-bounds-sheet-k
+element_copy_out_e c = omega (arith, known c.before.before, edges_most c.requires.0.0)
 
-chained_requires : tie.Need-chained-requires
+chained_requires : tie.Need-chained-w-requires
 chained_requires c κs =
-    let s = c.before.before in
+    let s = c.before.before.before in
     let p = s.requires in
     ((p.0.0, p.0.1, from_below p.0.0 _ (known s)), ((omega arith, p.0.3, p.1.0), p.1.1))
 
-returns : tie.Need-returns
+returns : tie.Need-returns-then-not-w
 returns c =
-    let t = c.before.before in
-    no_says (loop_not (begun t.before.before.before) t.chained.ensures (not-true _ c.if1.true))
+    let t = c in
+    no_says (loop_not (begun t.before.before.before.before.before.before) t.chained-w.ensures (not-true _ c.if-not-w.true))
 
-returns_2 : tie.Need-returns-2
+returns_2 : tie.Need-returns-then-w-e
 returns_2 c =
-    let t = c.before.before.before.before.before in
-    no_says (loop_open (begun t.before.before.before) t.chained.ensures c.if2.true)
+    let t = c in
+    no_says (loop_open (begun t.before.before.before.before.before.before.before.before.before) t.chained-w.ensures c.if-w-e.true)
 
-returns_3 : tie.Need-returns-3
+returns_3 : tie.Need-returns
 returns_3 c =
-    let i = c.before.before.before.before.before in
-    let t = i.before.before in
-    let w = t.chained in
+    let i = c in
+    let t = i in
+    let w = t.chained-w in
     rw (kept {z = w.result.sum} (within_fits (omega arith) w.ensures.near.sum))
-    (loop_says (begun t.before.before.before) w.ensures (not-false _ i.if1.false)
-    c.before.before.if2.false (less_says (pos 0) w.result.sum))
+    (loop_says (begun t.before.before.before.before.before.before.before.before.before.before.before) w.ensures (not-false _ i.if-not-w.false)
+    c.if-w-e.false (less_says (pos 0) w.result.sum))
 
 pub loop_so_spec : {M : Type 1} → statement M
 loop_so_spec =
