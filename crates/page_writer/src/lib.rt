@@ -1,6 +1,8 @@
 // Writes the page of a placing table straight into the lent buffer; page_text/specs/Page.antt says which bytes it has.
 // Its callers put the questions first: `page` and `table_command` call `put_page` for a sheet and an interval that are
 // accepted, with a buffer that takes the page. `page` asks `page_length`, and `table_command` has room for any page.
+#![tactic(auto)]
+
 ghost use Rattle.std.specs.Prelude.{◌≡◌, ◌+◌, ◌*◌, ◌<◌, ◌≤◌, length};
 ghost use Rattle.sizes.specs.Sizes.{most_types, most_instances, most_intervals};
 ghost use Rattle.laws.specs.Entry.{vec};

@@ -14,21 +14,21 @@ use borrow.Author.Rules.{rules}
 use Rattle.page_writer.proofs.put_page.Statement.{statement}
 use Rattle.page_writer.proofs.put_page.Tie as tie
 
-abbrev invariant_loop : tie.invariant_loop
+abbrev invariant_loop : tie.invariant-loop-r
 invariant_loop out₀ sheet interval table count place₀ r₀ out place r = (r ≤ count) × Pasted 0 (lines_to sheet interval table r) out₀ out place
 
-abbrev decreases_loop : tie.decreases_loop
+abbrev decreases_loop : tie.decreases-loop-r
 decreases_loop out₀ sheet interval table count place₀ r₀ out place r = count - r
 
-loop_holds : tie.Need-loop-init invariant_loop decreases_loop
-loop_holds c = (omega arith, pasted_as (sym (up_none _)) (pasted_none c.before.args.out.now 0 (omega arith)))
+loop_holds : tie.Need-loop-r-init invariant_loop decreases_loop
+loop_holds c = (omega arith, pasted_as (sym (up_none _)) (pasted_none c.args.out.now 0 (omega arith)))
 
-put_type_requires : tie.Need-put-type-requires invariant_loop decreases_loop
+put_type_requires : tie.Need-put_type-place-requires invariant_loop decreases_loop
 put_type_requires c κs =
-    let s = c.before.before.before.before in
+    let s = c in
     let a = s.args in
-    let l = c.before.before.loop in
-    let t = c.before.loop-test.true in
+    let l = c.loop-r in
+    let t = c.loop-r-test.true in
     let m = types_most s.requires.0.sheet in
     let p = l.invariant.1 in
     let n = lines_long s.requires.0 a.table l.r (omega arith) in
@@ -36,30 +36,30 @@ put_type_requires c κs =
     let g = total_grows (l.r + 1) a.sheet.type_count (λ q. type_length a.interval (type_at a.sheet q).instances) (omega arith) in
     (s.requires.0, omega arith, omega (arith, s.requires.1, p.ends, p.size, n, e, g))
 
-add_r : tie.Need-overflow-add-r invariant_loop decreases_loop
+add_r : tie.Need-overflow_step-r invariant_loop decreases_loop
 add_r c = search rules
 
-loop_less : tie.Need-loop-smaller invariant_loop decreases_loop
+loop_less : tie.Need-loop-r-smaller invariant_loop decreases_loop
 loop_less c = search rules
 
-loop_again : tie.Need-loop-preserved invariant_loop decreases_loop
+loop_again : tie.Need-loop-r-preserved invariant_loop decreases_loop
 loop_again c =
-    let a = c.before.before.before.before.before.before.before.args in
-    let l = c.before.before.before.before.before.loop in
-    let t = c.before.before.before.before.loop-test.true in (
+    let a = c.args in
+    let l = c.loop-r in
+    let t = c.loop-r-test.true in (
       omega arith,
       pasted_as (sym (up_more l.r (type_text a.sheet a.interval a.table)))
-          (pasted_then (omega arith) l.invariant.1 c.before.before.put-type.ensures),
+          (pasted_then (omega arith) l.invariant.1 c.put_type-place.ensures),
     )
 
-same_length : tie.Need-same-length invariant_loop decreases_loop
-same_length c = c.before.loop.invariant.1.size
+same_length : tie.Need-shape_of-out invariant_loop decreases_loop
+same_length c = c.loop-r.invariant.1.size
 
 returns : tie.Need-returns invariant_loop decreases_loop
 returns c =
-    let a = c.before.before.before.args in
-    let l = c.before.loop in
-    let e : l.r ≡ a.sheet.type_count = omega (arith, l.invariant.0, c.loop-test.false) in
+    let a = c.args in
+    let l = c.loop-r in
+    let e : l.r ≡ a.sheet.type_count = omega (arith, l.invariant.0, c.loop-r-test.false) in
     pasted_front (pasted_as (ap (lines_to a.sheet a.interval a.table) e ∙ sym (page_lines a.sheet a.interval a.table)) l.invariant.1)
 
 pub put_page_spec : {M : Type 1} → statement M

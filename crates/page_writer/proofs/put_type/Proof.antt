@@ -11,49 +11,49 @@ use borrow.Author.Rules.{rules}
 use Rattle.page_writer.proofs.put_type.Statement.{statement}
 use Rattle.page_writer.proofs.put_type.Tie as tie
 
-mul_kind : tie.Need-overflow-mul-kind
+mul_kind : tie.Need-offset_bounds-sheet-r
 mul_kind c = search rules
 
-element_copy_out_kind : tie.Need-element-copy-out-kind
+element_copy_out_kind : tie.Need-bounds-sheet-r
 element_copy_out_kind c = search rules
 
-returns : tie.Need-returns
+returns : tie.Need-returns-then-limit-eq0
 returns c =
-    let s = c.before.before.before in
+    let s = c in
     let a = s.args in
     let h = s.requires.2 in
-    let A = (type_at a.t3 a.r).instances in
-    pasted_as (sym (unlimited_lines a.interval A (user_of a.t3 a.interval a.table a.r) a.r c.if1.true)) (pasted_none a.out.now a.at (omega arith))
+    let A = (type_at a.sheet a.r).instances in
+    pasted_as (sym (unlimited_lines a.interval A (user_of a.sheet a.interval a.table a.r) a.r c.if-limit-eq0.true)) (pasted_none a.out.now a.at (omega arith))
 
-put_heading_requires : tie.Need-put-heading-requires
+put_heading_requires : tie.Need-put_heading-first-requires
 put_heading_requires c κs =
-    let s = c.before.before.before.before in
+    let s = c in
     let a = s.args in
-    let n : 0 < (type_at a.t3 a.r).instances = omega (arith, c.before.if1.false) in
-    let w = limited_length a.interval (type_at a.t3 a.r).instances n in
+    let n : 0 < (type_at a.sheet a.r).instances = omega (arith, c.if-limit-eq0.false) in
+    let w = limited_length a.interval (type_at a.sheet a.r).instances n in
     (omega (arith, s.requires.1), omega (arith, s.requires.2, w))
 
-put_slots_requires : tie.Need-put-slots-requires
+put_slots_requires : tie.Need-put_slots-requires
 put_slots_requires c κs =
-    let s = c.before.before.before.before.before.before.before.before in
+    let s = c in
     let a = s.args in
-    let p = c.before.before.before.put-heading.ensures in
-    let n : 0 < (type_at a.t3 a.r).instances = omega (arith, c.before.before.before.before.before.if1.false) in
-    let w = limited_length a.interval (type_at a.t3 a.r).instances n in
+    let p = c.put_heading-first.ensures in
+    let n : 0 < (type_at a.sheet a.r).instances = omega (arith, c.if-limit-eq0.false) in
+    let w = limited_length a.interval (type_at a.sheet a.r).instances n in
     let l = heading_long a.r (omega (arith, s.requires.1)) in
     (s.requires.0, s.requires.1, omega (arith, s.requires.2, w, p.ends, p.size))
 
-same_length : tie.Need-same-length
+same_length : tie.Need-shape_of-out
 same_length c = search rules
 
-returns_2 : tie.Need-returns-2
+returns_2 : tie.Need-returns
 returns_2 c =
-    let s = c.before.before.before.before.before.before.before.before.before.before.before in
+    let s = c in
     let a = s.args in
     let h = s.requires.2 in
-    let A = (type_at a.t3 a.r).instances in
-    pasted_as (sym (limited_lines a.interval A (user_of a.t3 a.interval a.table a.r) a.r (omega (arith, c.before.before.before.before.before.before.before.before.if1.false))))
-    (pasted_then (omega arith) c.before.before.before.before.before.before.put-heading.ensures c.before.before.put-slots.ensures)
+    let A = (type_at a.sheet a.r).instances in
+    pasted_as (sym (limited_lines a.interval A (user_of a.sheet a.interval a.table a.r) a.r (omega (arith, c.if-limit-eq0.false))))
+    (pasted_then (omega arith) c.put_heading-first.ensures c.put_slots.ensures)
 
 pub put_type_spec : {M : Type 1} → statement M
 put_type_spec =
