@@ -1,13 +1,13 @@
 -- Lists of n numbers: what the exhaustive tests say of each, and of a function's first n values. Assumes nothing.
-use Rattle.std.specs.Prelude.{◌≡◌, refl, Bool, true, false, cond, not, ◌⊎◌, List, [], ◌∷◌, ℕ, zero, suc, ◌<◌, ◌≤◌, eqb, ltb, get_or, length}
-use Rattle.std.proofs.Common.{sym, ap, ap₂, subst, ◌∙◌, inl, inr, ⊎_elim, arith, eqb-true, ltb-true}
+use Rattle.std.specs.Prelude.{◌≡◌, refl, Bool, true, false, ◌⊎◌, List, [], ◌∷◌, ℕ, zero, suc, ◌<◌, eqb, ltb, length}
+use Rattle.std.proofs.Common.{sym, ap, ap₂, subst, inl, inr, ⊎_elim, arith, eqb-true, ltb-true}
 use Rattle.std.proofs.Math.Decide.{ℕ_discrete}
 use Rattle.laws.specs.Entry.{vec}
 use Rattle.laws.specs.Z.{true_false}
 use Rattle.laws.specs.Count.{both_true, both_show}
 use Rattle.dependence.specs.Rules.{LexLess, less, same}
 use Rattle.plan.specs.Order.{Less, Same}
-use Rattle.starred_cases.specs.Tests.{both, up_to, every, lex_then}
+use Rattle.starred_cases.specs.Tests.{up_to, every, lex_then}
 
 pub up_at : (n : ℕ) (p : ℕ → Bool) → up_to n p ≡ true → (i : ℕ) → i < n → p i ≡ true
 unfolding up_to

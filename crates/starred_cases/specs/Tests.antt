@@ -1,6 +1,6 @@
 -- Tests that compute: of the sheet's ranges, of the rules of a plan, of the order of plans, and of bad closed walks.
 -- Exhaustive, and only for small sheets.
-use Rattle.std.specs.Prelude.{Bool, true, false, cond, not, List, [], ◌∷◌, ℕ, zero, suc, ◌+◌, ◌%◌, eqb, ltb, leb, length, ℤ, pos, ◌+ℤ◌}
+use Rattle.std.specs.Prelude.{Bool, true, false, cond, not, List, [], ◌∷◌, ℕ, zero, suc, ◌+◌, ◌%◌, eqb, ltb, leb, length, pos, ◌+ℤ◌}
 use Rattle.std.specs.Int.Signed.{le_z, lt_z}
 use Rattle.laws.specs.Entry.{vec}
 use Rattle.dependence.specs.declared.Graph.{Graph}

@@ -1,13 +1,13 @@
 -- What the tests of walks say of the rules. Assumes nothing.
-use Rattle.std.specs.Prelude.{◌≡◌, refl, Bool, true, false, cond, ◌⊎◌, List, [], ◌∷◌, ℕ, zero, suc, ◌<◌, ◌≤◌, eqb, ltb, get_or, length, ℤ, pos, ◌<ℤ◌}
-use Rattle.std.proofs.Common.{sym, ap, subst, ◌∙◌, inl, inr, ⊎_elim, arith, eqb-true, eq-eqb, lt-ltb, ltb-true}
+use Rattle.std.specs.Prelude.{◌≡◌, refl, Bool, true, cond, ◌⊎◌, List, [], ◌∷◌, ℕ, zero, suc, ◌<◌, eqb, ltb, length, pos, ◌<ℤ◌}
+use Rattle.std.proofs.Common.{sym, subst, inl, inr, arith, eqb-true, eq-eqb, lt-ltb, ltb-true}
 use Rattle.std.proofs.Math.Decide.{dec_lt}
 use Rattle.std.specs.Int.Signed.{lt_z}
 use Rattle.laws.specs.Entry.{vec}
 use Rattle.laws.specs.Z.{true_false, lt_z_true, true_lt_z}
 use Rattle.laws.specs.Count.{both_true, both_show}
 use Rattle.dependence.specs.declared.Graph.{Graph}
-use Rattle.dependence.specs.Graph.{edge_at, total}
+use Rattle.dependence.specs.Graph.{edge_at}
 use Rattle.dependence.specs.Rules.{Chain, here, step, sum, BadWalk, LexLess, FirstBadWalk}
 use Rattle.starred_cases.specs.Tests.{both, up_to, every, lex_then, chain_test, bad_test, first_walk_test}
 use Rattle.starred_cases.specs.Lists.{up_at, every_at, lex_before}

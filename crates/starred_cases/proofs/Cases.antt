@@ -1,6 +1,6 @@
 -- The starred cases hold: one computed test over the whole table, and the law that turns it into the claim at each row.
 -- Assumes nothing.
-use Rattle.std.specs.Prelude.{◌≡◌, refl, Bool, true, false, List, [], ◌∷◌, ℕ, zero, suc, ◌<◌, length, get_or}
+use Rattle.std.specs.Prelude.{◌≡◌, refl, Bool, true, List, [], ◌∷◌, ℕ, zero, suc, ◌<◌, length, get_or}
 use Rattle.std.proofs.Common.{arith}
 use Rattle.laws.specs.Count.{both_true}
 use Rattle.plan.specs.Resource.{greatest}

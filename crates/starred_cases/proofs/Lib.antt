@@ -1,0 +1,2 @@
+-- The lemma: the claim at each row of the table holds.
+pub mod Cases
