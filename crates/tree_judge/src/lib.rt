@@ -1,6 +1,8 @@
 // Reads the tree of a denial and judges it at once: the lines are gone through from the top, and each node is judged by
 // what the cuts above it leave. An inner layer of `judge`, a crate of its own for the check's time: it asks for a sheet
 // in range and an interval up to its cap. The only caller is `judge`, which has put those questions.
+#![tactic(auto)]
+
 ghost use Rattle.std.specs.Prelude.{◌≡◌, ◌+◌, ◌≤◌, ◌<◌, drop};
 ghost use Rattle.sheet.specs.Sheet.{InRange, Interval};
 ghost use Rattle.denial.specs.At.{rules_at};
@@ -22,7 +24,7 @@ const MOST_CUTS: usize = 64;
 // What was read of a tree: whether it is one, the place after it, and the number of the line after it; of one that is
 // none the number of the line at which reading stopped, and the place 0. And the line of the first node that is not so,
 // 0 where there is none.
-#[derive(Drop)]
+#[derive(Clone, Copy)]
 pub struct Verdict {
     pub ok: bool,
     pub next: usize,

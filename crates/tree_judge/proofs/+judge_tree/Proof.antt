@@ -59,221 +59,221 @@ callees t = (
   cut-fault-reads.Learnt,
 )
 
-stopped_at_requires : (t : ℕ) → lts.Need-stopped-at-requires (callees t) (judge_tree_at t) judge-tree.Post
+stopped_at_requires : (t : ℕ) → lts.Need-stopped_at-requires (callees t) (judge_tree_at t) judge-tree.Post
 stopped_at_requires t c κs =
     tt
 
-returns : (t : ℕ) → lts.Need-returns (callees t) (judge_tree_at t) judge-tree.Post
+returns : (t : ℕ) → lts.Need-returns-then-line-gt-MOST_LINES (callees t) (judge_tree_at t) judge-tree.Post
 returns t c =
-    let a = c.before.before.before.args in
+    let a = c.args in
     let s = a.sheet in
     let bs = a.s.now in
     judges_too_many (rules_at s a.interval) (box_of a.b) bs s.op_count s.edge_count a.depth a.line
-    (drop a.at bs) c.before.if1.true c.stopped-at.ensures
+    (drop a.at bs) c.if-line-gt-MOST_LINES.true c.stopped_at.ensures
 
-read_node_requires : (t : ℕ) → lts.Need-read-node-requires (callees t) (judge_tree_at t) judge-tree.Post
+read_node_requires : (t : ℕ) → lts.Need-read_node-node-requires (callees t) (judge_tree_at t) judge-tree.Post
 read_node_requires t c κs =
     tt
 
-stopped_at_requires_2 : (t : ℕ) → lts.Need-stopped-at-requires-2 (callees t) (judge_tree_at t) judge-tree.Post
+stopped_at_requires_2 : (t : ℕ) → lts.Need-stopped_at-requires-then-node-eq0 (callees t) (judge_tree_at t) judge-tree.Post
 stopped_at_requires_2 t c κs =
     tt
 
-returns_2 : (t : ℕ) → lts.Need-returns-2 (callees t) (judge_tree_at t) judge-tree.Post
+returns_2 : (t : ℕ) → lts.Need-returns-then-node-eq0 (callees t) (judge_tree_at t) judge-tree.Post
 returns_2 t c =
-    let node = c.before.before.before in
-    let a = node.before.before.before.args in
+    let node = c in
+    let a = node.args in
     let s = a.sheet in
     let bs = a.s.now in
-    let r = node.read-node in
+    let r = node.read_node-node in
     judges_malformed (rules_at s a.interval) (box_of a.b) bs s.op_count s.edge_count a.depth a.line
-    (drop a.at bs) (omega (arith, node.before.if1.false)) r.result r.ensures.0
-    c.before.if2.true c.stopped-at2.ensures
+    (drop a.at bs) (omega (arith, node.if-line-gt-MOST_LINES.false)) r.result r.ensures.0
+    c.if-node-eq0.true c.stopped_at-then-node-eq0.ensures
 
-leaf_so_requires : (t : ℕ) → lts.Need-leaf-so-requires (callees t) (judge_tree_at t) judge-tree.Post
+leaf_so_requires : (t : ℕ) → lts.Need-leaf_so-so-requires (callees t) (judge_tree_at t) judge-tree.Post
 leaf_so_requires t c κs =
-    let node = c.before.before.before.before in
-    let z = node.before.before.before in
+    let node = c in
+    let z = node in
     let a = z.args in
     let s = a.sheet in
     let bs = a.s.now in
-    let r = node.read-node in
+    let r = node.read_node-node in
     let p = z.requires.1 in
     let fit = r.ensures.1 in (
       p.0,
       p.1,
       p.2,
-      fit.some (omega (arith, c.if3.true)),
+      fit.some (omega (arith, c.if-node-gt-SEAT.true)),
       fit.count,
       leaf_known (rules_at s a.interval) (box_of a.b) bs s.op_count s.edge_count a.depth a.line
-          (drop a.at bs) (omega (arith, node.before.if1.false)) r.result r.ensures.0
-          c.before.before.if2.false c.if3.true,
+          (drop a.at bs) (omega (arith, node.if-line-gt-MOST_LINES.false)) r.result r.ensures.0
+          c.if-node-eq0.false c.if-node-gt-SEAT.true,
     )
 
-add_t16 : (t : ℕ) → lts.Need-overflow-add-t16 (callees t) (judge_tree_at t) judge-tree.Post
+add_t16 : (t : ℕ) → lts.Need-overflow_add-result (callees t) (judge_tree_at t) judge-tree.Post
 add_t16 t c =
-    omega (arith, c.before.before.before.before.before.before.if1.false)
+    omega (arith, c.if-line-gt-MOST_LINES.false)
 
-leaf_fault_requires : (t : ℕ) → lts.Need-leaf-fault-requires (callees t) (judge_tree_at t) judge-tree.Post
+leaf_fault_requires : (t : ℕ) → lts.Need-leaf_fault-requires (callees t) (judge_tree_at t) judge-tree.Post
 leaf_fault_requires t c κs =
     tt
 
-returns_3 : (t : ℕ) → lts.Need-returns-3 (callees t) (judge_tree_at t) judge-tree.Post
+returns_3 : (t : ℕ) → lts.Need-returns-then-node-gt-SEAT (callees t) (judge_tree_at t) judge-tree.Post
 returns_3 t c =
-    let test = c.before.before in
-    let node = test.before.before.before.before in
-    let a = node.before.before.before.args in
+    let test = c in
+    let node = test in
+    let a = node.args in
     let s = a.sheet in
     let bs = a.s.now in
-    let r = node.read-node in
+    let r = node.read_node-node in
     judges_leaf (rules_at s a.interval) (box_of a.b) bs s.op_count s.edge_count a.depth a.line
-    (drop a.at bs) (omega (arith, node.before.if1.false)) r.result r.ensures.0
-    test.before.before.if2.false test.if3.true r.ensures.1.next
-    c.before.leaf-so.ensures c.leaf-fault.ensures
+    (drop a.at bs) (omega (arith, node.if-line-gt-MOST_LINES.false)) r.result r.ensures.0
+    test.if-node-eq0.false test.if-node-gt-SEAT.true r.ensures.1.next
+    c.leaf_so-so.ensures c.leaf_fault.ensures
 
-stopped_at_requires_3 : (t : ℕ) → lts.Need-stopped-at-requires-3 (callees t) (judge_tree_at t) judge-tree.Post
+stopped_at_requires_3 : (t : ℕ) → lts.Need-stopped_at-requires-then-depth-eq0 (callees t) (judge_tree_at t) judge-tree.Post
 stopped_at_requires_3 t c κs =
     tt
 
-returns_4 : (t : ℕ) → lts.Need-returns-4 (callees t) (judge_tree_at t) judge-tree.Post
+returns_4 : (t : ℕ) → lts.Need-returns-then-depth-eq0 (callees t) (judge_tree_at t) judge-tree.Post
 returns_4 t c =
-    let deep = c.before in
-    let node = deep.before.before.before.before.before in
-    let a = node.before.before.before.args in
+    let deep = c in
+    let node = deep in
+    let a = node.args in
     let s = a.sheet in
     let bs = a.s.now in
-    let r = node.read-node in
+    let r = node.read_node-node in
     judges_deep (rules_at s a.interval) (box_of a.b) bs s.op_count s.edge_count a.depth a.line
-    (drop a.at bs) (omega (arith, node.before.if1.false)) r.result r.ensures.0
-    deep.before.before.before.if2.false deep.before.if3.false deep.if4.true
-    c.stopped-at3.ensures
+    (drop a.at bs) (omega (arith, node.if-line-gt-MOST_LINES.false)) r.result r.ensures.0
+    deep.if-node-eq0.false deep.if-node-gt-SEAT.false deep.if-depth-eq0.true
+    c.stopped_at-then-depth-eq0.ensures
 
-up_to_requires : (t : ℕ) → lts.Need-up-to-requires (callees t) (judge_tree_at t) judge-tree.Post
+up_to_requires : (t : ℕ) → lts.Need-up_to-below-requires (callees t) (judge_tree_at t) judge-tree.Post
 up_to_requires t c κs =
-    let node = c.before.before.before.before.before in
-    let z = node.before.before.before in
+    let node = c in
+    let z = node in
     let a = z.args in
     let s = a.sheet in
     let bs = a.s.now in
-    let r = node.read-node in
+    let r = node.read_node-node in
     let k =
     cut_known_lem (rules_at s a.interval) (box_of a.b) bs s.op_count s.edge_count a.depth a.line
-    (drop a.at bs) (omega (arith, node.before.if1.false)) r.result r.ensures.0
-    c.before.before.before.if2.false c.before.if3.false in
+    (drop a.at bs) (omega (arith, node.if-line-gt-MOST_LINES.false)) r.result r.ensures.0
+    c.if-node-eq0.false c.if-node-gt-SEAT.false in
     (omega (arith, cut_op s.op_count r.result k, ops_most z.requires.1.0), r.ensures.1.small 1, z.requires.1.2)
 
-sub_judge_tree : (t : ℕ) → lts.Need-overflow-sub-judge-tree (callees t) (judge_tree_at t) judge-tree.Post
+sub_judge_tree : (t : ℕ) → lts.Need-overflow_sub-depth (callees t) (judge_tree_at t) judge-tree.Post
 sub_judge_tree t c =
-    omega (arith, c.before.if4.false)
+    omega (arith, c.if-depth-eq0.false)
 
-add_judge_tree : (t : ℕ) → lts.Need-overflow-add-judge-tree (callees t) (judge_tree_at t) judge-tree.Post
+add_judge_tree : (t : ℕ) → lts.Need-overflow_add-line (callees t) (judge_tree_at t) judge-tree.Post
 add_judge_tree t c =
-    omega (arith, c.before.before.before.before.before.before.before.if1.false)
+    omega (arith, c.if-line-gt-MOST_LINES.false)
 
-judge_tree_requires : (t : ℕ) → lts.Need-judge-tree-requires (callees t) (judge_tree_at t) judge-tree.Post
+judge_tree_requires : (t : ℕ) → lts.Need-judge_tree-first-requires (callees t) (judge_tree_at t) judge-tree.Post
 judge_tree_requires t c κs =
-    let node = c.before.before.before.before.before.before in
-    let z = node.before.before.before in
+    let node = c in
+    let z = node in
     let p = z.requires.1 in (
-      omega (arith, z.requires.0, c.before.if4.false),
-      (p.0, p.1, c.up_to_lem.ensures.1, omega arith, omega (arith, node.before.if1.false)),
+      omega (arith, z.requires.0, c.if-depth-eq0.false),
+      (p.0, p.1, c.up_to-below.ensures.1, omega arith, omega (arith, node.if-line-gt-MOST_LINES.false)),
     )
 
-returns_5 : (t : ℕ) → lts.Need-returns-5 (callees t) (judge_tree_at t) judge-tree.Post
+returns_5 : (t : ℕ) → lts.Need-returns-then-not-first (callees t) (judge_tree_at t) judge-tree.Post
 returns_5 t c =
-    let one = c.before.before in
-    let deep = one.before.before in
-    let node = deep.before.before.before.before.before in
-    let a = node.before.before.before.args in
+    let one = c in
+    let deep = one in
+    let node = deep in
+    let a = node.args in
     let s = a.sheet in
     let bs = a.s.now in
-    let r = node.read-node in
+    let r = node.read_node-node in
     judges_first (rules_at s a.interval) (box_of a.b) bs s.op_count s.edge_count a.depth a.line
-    (drop a.at bs) (omega (arith, node.before.if1.false)) r.result r.ensures.0
-    deep.before.before.before.if2.false deep.before.if3.false (omega (arith, deep.if4.false)) _ _
-    one.judge-tree.ensures (not-true _ c.if5.true)
+    (drop a.at bs) (omega (arith, node.if-line-gt-MOST_LINES.false)) r.result r.ensures.0
+    deep.if-node-eq0.false deep.if-node-gt-SEAT.false (omega (arith, deep.if-depth-eq0.false)) _ _
+    one.judge_tree-first.ensures (not-true _ c.if-not-first.true)
 
-above_requires : (t : ℕ) → lts.Need-above-requires (callees t) (judge_tree_at t) judge-tree.Post
+above_requires : (t : ℕ) → lts.Need-above-rest-requires (callees t) (judge_tree_at t) judge-tree.Post
 above_requires t c κs =
-    let deep = c.before.before.before.before in
-    let node = deep.before.before.before.before.before in
-    let z = node.before.before.before in
+    let deep = c in
+    let node = deep in
+    let z = node in
     let a = z.args in
     let s = a.sheet in
     let bs = a.s.now in
-    let r = node.read-node in
+    let r = node.read_node-node in
     let k =
     cut_known_lem (rules_at s a.interval) (box_of a.b) bs s.op_count s.edge_count a.depth a.line
-    (drop a.at bs) (omega (arith, node.before.if1.false)) r.result r.ensures.0
-    deep.before.before.before.if2.false deep.before.if3.false in
+    (drop a.at bs) (omega (arith, node.if-line-gt-MOST_LINES.false)) r.result r.ensures.0
+    deep.if-node-eq0.false deep.if-node-gt-SEAT.false in
     (omega (arith, cut_op s.op_count r.result k, ops_most z.requires.1.0), r.ensures.1.small 1, z.requires.1.2)
 
-sub_judge_tree_2 : (t : ℕ) → lts.Need-overflow-sub-judge-tree-2 (callees t) (judge_tree_at t) judge-tree.Post
+sub_judge_tree_2 : (t : ℕ) → lts.Need-overflow_sub-depth-2 (callees t) (judge_tree_at t) judge-tree.Post
 sub_judge_tree_2 t c =
-    omega (arith, c.before.before.before.before.before.if4.false)
+    omega (arith, c.if-depth-eq0.false)
 
-judge_tree_requires_2 : (t : ℕ) → lts.Need-judge-tree-requires-2 (callees t) (judge_tree_at t) judge-tree.Post
+judge_tree_requires_2 : (t : ℕ) → lts.Need-judge_tree-second-requires (callees t) (judge_tree_at t) judge-tree.Post
 judge_tree_requires_2 t c κs =
-    let one = c.before.before.before in
-    let deep = one.before.before in
-    let node = deep.before.before.before.before.before in
-    let z = node.before.before.before in
+    let one = c in
+    let deep = one in
+    let node = deep in
+    let z = node in
     let a = z.args in
     let s = a.sheet in
     let bs = a.s.now in
-    let r = node.read-node in
+    let r = node.read_node-node in
     let p = z.requires.1 in
     let l =
     first_line (rules_at s a.interval) (box_of a.b) bs s.op_count s.edge_count a.depth a.line
-    (drop a.at bs) (omega (arith, node.before.if1.false)) r.result r.ensures.0
-    deep.before.before.before.if2.false deep.before.if3.false (omega (arith, deep.if4.false)) _ _
-    one.judge-tree.ensures (not-false _ c.before.if5.false) in
-    (omega (arith, z.requires.0, deep.if4.false), (p.0, p.1, search rules, l.0, l.1))
+    (drop a.at bs) (omega (arith, node.if-line-gt-MOST_LINES.false)) r.result r.ensures.0
+    deep.if-node-eq0.false deep.if-node-gt-SEAT.false (omega (arith, deep.if-depth-eq0.false)) _ _
+    one.judge_tree-first.ensures (not-false _ c.if-not-first.false) in
+    (omega (arith, z.requires.0, deep.if-depth-eq0.false), (p.0, p.1, search rules, l.0, l.1))
 
-returns_6 : (t : ℕ) → lts.Need-returns-6 (callees t) (judge_tree_at t) judge-tree.Post
+returns_6 : (t : ℕ) → lts.Need-returns-then-not-second (callees t) (judge_tree_at t) judge-tree.Post
 returns_6 t c =
-    let two = c.before.before in
-    let one = two.before.before.before.before in
-    let deep = one.before.before in
-    let node = deep.before.before.before.before.before in
-    let a = node.before.before.before.args in
+    let two = c in
+    let one = two in
+    let deep = one in
+    let node = deep in
+    let a = node.args in
     let s = a.sheet in
     let bs = a.s.now in
-    let r = node.read-node in
+    let r = node.read_node-node in
     judges_second (rules_at s a.interval) (box_of a.b) bs s.op_count s.edge_count a.depth a.line
-    (drop a.at bs) (omega (arith, node.before.if1.false)) r.result r.ensures.0
-    deep.before.before.before.if2.false deep.before.if3.false (omega (arith, deep.if4.false)) _ _
-    one.judge-tree.ensures (not-false _ two.before.before.if5.false) _ _
-    two.judge-tree2.ensures (not-true _ c.if6.true)
+    (drop a.at bs) (omega (arith, node.if-line-gt-MOST_LINES.false)) r.result r.ensures.0
+    deep.if-node-eq0.false deep.if-node-gt-SEAT.false (omega (arith, deep.if-depth-eq0.false)) _ _
+    one.judge_tree-first.ensures (not-false _ two.if-not-first.false) _ _
+    two.judge_tree-second.ensures (not-true _ c.if-not-second.true)
 
-cut_allowed_requires : (t : ℕ) → lts.Need-cut-allowed-requires (callees t) (judge_tree_at t) judge-tree.Post
+cut_allowed_requires : (t : ℕ) → lts.Need-cut_allowed-allowed-requires (callees t) (judge_tree_at t) judge-tree.Post
 cut_allowed_requires t c κs =
     tt
 
-cut_fault_requires : (t : ℕ) → lts.Need-cut-fault-requires (callees t) (judge_tree_at t) judge-tree.Post
+cut_fault_requires : (t : ℕ) → lts.Need-cut_fault-requires (callees t) (judge_tree_at t) judge-tree.Post
 cut_fault_requires t c κs =
     tt
 
-returns_7 : (t : ℕ) → lts.Need-returns-7 (callees t) (judge_tree_at t) judge-tree.Post
+returns_7 : (t : ℕ) → lts.Need-returns (callees t) (judge_tree_at t) judge-tree.Post
 returns_7 t c =
-    let two = c.before.before.before.before in
-    let one = two.before.before.before.before in
-    let deep = one.before.before in
-    let node = deep.before.before.before.before.before in
-    let a = node.before.before.before.args in
+    let two = c in
+    let one = two in
+    let deep = one in
+    let node = deep in
+    let a = node.args in
     let s = a.sheet in
     let bs = a.s.now in
-    let r = node.read-node in
+    let r = node.read_node-node in
     judges_both (rules_at s a.interval) (box_of a.b) bs s.op_count s.edge_count a.depth a.line
-    (drop a.at bs) (omega (arith, node.before.if1.false)) r.result r.ensures.0
-    deep.before.before.before.if2.false deep.before.if3.false (omega (arith, deep.if4.false)) _ _
-    one.judge-tree.ensures (not-false _ two.before.before.if5.false) _ _
-    two.judge-tree2.ensures (not-false _ c.before.before.if6.false)
-    one.before.up_to_lem.ensures.0 two.before.above.ensures.0 c.before.cut-allowed.ensures
-    c.cut-fault.ensures
+    (drop a.at bs) (omega (arith, node.if-line-gt-MOST_LINES.false)) r.result r.ensures.0
+    deep.if-node-eq0.false deep.if-node-gt-SEAT.false (omega (arith, deep.if-depth-eq0.false)) _ _
+    one.judge_tree-first.ensures (not-false _ two.if-not-first.false) _ _
+    two.judge_tree-second.ensures (not-false _ c.if-not-second.false)
+    one.up_to-below.ensures.0 two.above-rest.ensures.0 c.cut_allowed-allowed.ensures
+    c.cut_fault.ensures
 
-pub +judge-tree-spec : {M : Type 1} → statement M
-+judge-tree-spec =
+pub +judge_tree_spec : {M : Type 1} → statement M
++judge_tree_spec =
     close μ_judge_tree λ t. lts.spec (callees t)
     (judge_tree_at t)
     judge-tree.Post
