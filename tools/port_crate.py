@@ -159,6 +159,10 @@ def without_gone(given, text, aliases):
     return text
 
 
+# Laws that went from specs/ to proofs/ since, and that a file which is still as the port left it cites there.
+MOVED = re.compile(r"\b(Rattle\.round_trip)\.proofs\.(RoundTrip|Reading)\b")
+
+
 def at_base(path):
     shown = subprocess.run(["git", "show", BASE + ":" + os.path.relpath(path, ROOT)], cwd=ROOT, capture_output=True, text=True)
     return shown.stdout
@@ -175,7 +179,7 @@ def retie(home, listed):
         if not os.path.exists(path):
             continue
         old = read(path)
-        if not fresh.setdefault(path, old == at_base(path)):
+        if not fresh.setdefault(path, MOVED.sub(r"\1.specs.\2", old) == at_base(path)):
             continue
         # In a cycle of calls a file has the goals of each function, by a name of its own.
         use = r"(?m)^use \S+\.Lts-%s as (\S+)" % re.escape(m[3] or "-")

@@ -19,7 +19,7 @@ use Rattle.sheet.specs.Sheet.{InRange}
 use Rattle.sheet.specs.Facts.{ops_most, graph_in_range, interval_in_range}
 use Rattle.sheet.specs.Questions.{One, is_one, asked_one, at_interval_one, at_no, at_yes}
 use Rattle.reader.specs.Read.{read_of}
-use Rattle.round_trip.specs.RoundTrip.{writes_back}
+use Rattle.round_trip.proofs.RoundTrip.{writes_back}
 use Rattle.timing.specs.Answers.{SeparationsAt}
 use Rattle.timing.specs.Unique.{walk_at_unique, starts_at_unique, recurrence_at_unique}
 use Rattle.plan.specs.declared.resource.Bound as resource
@@ -27,7 +27,7 @@ use Rattle.plan.specs.declared.PlanAnswer.{PlanAnswer}
 use Rattle.plan.specs.Unique.{plan_at_unique, resource_unique}
 use Rattle.pair_order.specs.declared.SlotOrder.{SlotOrder}
 use Rattle.pair_order.specs.Unique.{slot_order_unique}
-use Rattle.round_trip.specs.Reading.{read_in_range}
+use Rattle.round_trip.proofs.Reading.{read_in_range}
 use Rattle.words.specs.declared.Command.{Command}
 use Rattle.words.specs.declared.Command.TheVariants.{Write}
 use Rattle.command_lines.specs.Listing.{cell_of, row_line, bounds_lines, starts_lines, separations_lines, plan_lines, order_lines, first_page, answer_at}

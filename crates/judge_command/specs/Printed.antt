@@ -19,7 +19,7 @@ use Rattle.lines.specs.Shown.{none_shown, none_count, none_whole, with_shown}
 use Rattle.sheet.specs.declared.Sheet.{Sheet}
 use Rattle.sheet.specs.Questions.{at_no, at_yes}
 use Rattle.reader.specs.Read.{read_of}
-use Rattle.round_trip.specs.Reading.{read_small, read_in_range}
+use Rattle.round_trip.proofs.Reading.{read_small, read_in_range}
 use Rattle.judge.specs.Text.{AnswerRead, plan, denial, unreadable, answer_of}
 use Rattle.judge.specs.Answers.{Claimed, Judged}
 use Rattle.judge.specs.Bytes.{JudgeOf}

@@ -7,5 +7,3 @@ pub mod All
 pub mod Lawful
 pub mod Lines
 pub mod Short
-pub mod RoundTrip
-pub mod Reading

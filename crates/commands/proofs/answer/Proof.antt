@@ -9,8 +9,8 @@ use Rattle.sheet.specs.Sheet.{InRange, Arrays}
 use Rattle.reader.specs.declared.ReadAnswer.{ReadAnswer}
 use Rattle.reader.specs.Read.{read_of}
 use Rattle.reader.specs.FaultLaws.{fault_small}
-use Rattle.round_trip.specs.RoundTrip.{only_text}
-use Rattle.round_trip.specs.Reading.{read_small}
+use Rattle.round_trip.proofs.RoundTrip.{only_text}
+use Rattle.round_trip.proofs.Reading.{read_small}
 use Rattle.command_lines.specs.Listing.{refusal_lines}
 use Rattle.command_lines.specs.Shows.{lists}
 use Rattle.command_lines.specs.Answers.{put}

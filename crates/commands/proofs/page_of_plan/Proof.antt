@@ -7,7 +7,7 @@ use Rattle.sheet.specs.declared.Sheet.{Sheet}
 use Rattle.sheet.specs.Sheet.{InRange}
 use Rattle.sheet.specs.Questions.{at_no, at_yes}
 use Rattle.reader.specs.declared.ReadAnswer.{ReadAnswer}
-use Rattle.round_trip.specs.Reading.{read_small, read_in_range}
+use Rattle.round_trip.proofs.Reading.{read_small, read_in_range}
 use Rattle.command_lines.specs.Shows.{lists}
 use Rattle.command_lines.specs.Answers.{put}
 use Rattle.command_lines.specs.Prints.{ServesPage}

@@ -5,7 +5,7 @@ use mathlib.Core.List.{List}
 use Prim.Native.Nat.{ℕ}
 use Rattle.text.specs.declared.Written.{Written}
 use Rattle.sheet.specs.declared.Sheet.{Sheet}
-use Rattle.round_trip.specs.RoundTrip.{text_short}
+use Rattle.round_trip.proofs.RoundTrip.{text_short}
 use Rattle.words.specs.declared.Command.{Command}
 use Rattle.command_lines.specs.Shows.{lists}
 use Rattle.command_lines.specs.Answers.{put, write_put}

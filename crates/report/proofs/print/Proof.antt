@@ -10,7 +10,7 @@ use Rattle.reader.specs.declared.ReadAnswer.{ReadAnswer}
 use Rattle.reader.specs.Read.{read_of}
 use Rattle.report.specs.Print.{Run, Printed, refused, read}
 use Rattle.text.specs.Bounds.{answer_most_lem}
-use Rattle.round_trip.specs.Reading.{read_small, read_in_range}
+use Rattle.round_trip.proofs.Reading.{read_small, read_in_range}
 use Rattle.report.specs.Printing.{weaken}
 use native.Mathlib.Omega.{arith}
 use borrow.Author.Rules.{rules}

@@ -14,7 +14,7 @@ use Rattle.sheet.specs.Sheet.{InRange}
 use Rattle.sheet.specs.Questions.{at_no, at_yes, AtInterval, accepted, refuses, goes_on}
 use Rattle.reader.specs.declared.ReadAnswer.{ReadAnswer}
 use Rattle.reader.specs.Read.{read_of}
-use Rattle.round_trip.specs.Reading.{read_small, read_in_range}
+use Rattle.round_trip.proofs.Reading.{read_small, read_in_range}
 use Rattle.table_script.specs.declared.Step.{Step}
 use Rattle.table_script.specs.Script.{script_of, steps}
 use Rattle.table_script.specs.Ahead.{sound}

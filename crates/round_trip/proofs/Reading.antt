@@ -10,7 +10,7 @@ use Rattle.reader.specs.declared.ReadAnswer.{ReadAnswer}
 use Rattle.sheet_lines.specs.Found.{Found, found, refused}
 use Rattle.reader.specs.Read.{whole_from, answered, read_of}
 use Rattle.reader.specs.Refusals.{OnRefusal, Answers, refusal_holds}
-use Rattle.round_trip.specs.RoundTrip.{only_text}
+use Rattle.round_trip.proofs.RoundTrip.{only_text}
 
 few : Answers (λ n. n ≤ three_digits)
 few = record {
