@@ -9,11 +9,10 @@ use Rattle.sheet.specs.Facts.{graph_in_range, interval_in_range}
 use Rattle.sheet.specs.Questions.{at_no, at_yes, Accepted}
 use Rattle.sheet.specs.Loop.{Feasible}
 use Rattle.plan.specs.declared.PlanAnswer.{PlanAnswer}
-use Rattle.plan.specs.declared.IntervalAnswer.{IntervalAnswer}
 use Rattle.plan.specs.declared.resource.Bound.{Bound}
 use Rattle.plan.specs.Resource.{resource_bound, ResourceAt}
 use Rattle.plan.specs.ResourceLaws.{bound_below}
-use Rattle.plan.specs.Answers.{refused, planned, HasPlan, IfPlan, PlanAt, LeastGiven, IfInterval}
+use Rattle.plan.specs.Answers.{refused, planned, HasPlan, IfPlan, PlanAt, IfInterval}
 use Rattle.plan.specs.Exactly.{decides, accepted_given}
 use Rattle.domain.specs.Domain.{FirstIn}
 use Rattle.task.specs.declared.Task.{Task}

@@ -1,4 +1,6 @@
 // The services on plans: the plan at an interval and the least interval.
+#![tactic(auto)]
+
 ghost use Rattle.std.specs.Prelude.{◌≡◌};
 ghost use Rattle.sheet.specs.Sheet.{graph_of};
 ghost use Rattle.plan.specs.Answers.{PlanAt, LeastInterval, IfPlan, refused};

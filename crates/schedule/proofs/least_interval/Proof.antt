@@ -1,7 +1,7 @@
 -- `schedule::least_interval` meets its contract: no interval passed has a plan.
 -- Assumes nothing.
 use mathlib.Core.Path.{refl}
-use Prim.Native.Nat.{ℕ, ◌≤◌, ◌+◌, ◌-◌}
+use Prim.Native.Nat.{◌≤◌, ◌+◌, ◌-◌}
 use native.Mathlib.Omega.{arith}
 use borrow.Author.Rules.{rules}
 use Rattle.sheet.specs.Sheet.{InRange}
@@ -12,57 +12,57 @@ use Rattle.schedule.specs.Served.{NoneBelow, none_below_one, none_more, least_an
 use Rattle.schedule.proofs.least_interval.Statement.{statement}
 use Rattle.schedule.proofs.least_interval.Tie as tie
 
-abbrev invariant_loop : tie.invariant_loop
+abbrev invariant_loop : tie.invariant-loop-interval
 invariant_loop sheet asked cap interval₀ interval = (1 ≤ interval) × (interval ≤ cap + 1) × NoneBelow sheet interval
 
-abbrev decreases_loop : tie.decreases_loop
+abbrev decreases_loop : tie.decreases-loop-interval
 decreases_loop sheet asked cap interval₀ interval = cap + 1 - interval
 
 -- the sheet's questions got a yes
-passed : (c : tie.Else1 invariant_loop decreases_loop) → InRange c.before.before.args.sheet
-passed c = sheet_accepted c.before.answer.ensures c.if1.false
+passed : (c : tie.Else-asked-ne0 invariant_loop decreases_loop) → InRange c.args.sheet
+passed c = sheet_accepted c.answer-asked.ensures c.if-asked-ne0.false
 
-answer_requires : tie.Need-answer-requires invariant_loop decreases_loop
+answer_requires : tie.Need-answer-asked-requires invariant_loop decreases_loop
 answer_requires c κs = search rules
 
-returns : tie.Need-returns invariant_loop decreases_loop
-returns c = sheet_refuses interval_refused c.before.answer.ensures c.if1.true refl
+returns : tie.Need-returns-then-asked-ne0 invariant_loop decreases_loop
+returns c = sheet_refuses interval_refused c.answer-asked.ensures c.if-asked-ne0.true refl
 
-loop_holds : tie.Need-loop-init invariant_loop decreases_loop
+loop_holds : tie.Need-loop-interval-init invariant_loop decreases_loop
 loop_holds c = (omega arith, omega arith, none_below_one _)
 
-plan_at_requires : tie.Need-plan-at-requires invariant_loop decreases_loop
+plan_at_requires : tie.Need-plan_at-plan-requires invariant_loop decreases_loop
 plan_at_requires c κs = search rules
 
-returns_2 : tie.Need-returns-2 invariant_loop decreases_loop
+returns_2 : tie.Need-returns-then-plan-eq0 invariant_loop decreases_loop
 returns_2 c =
-    let p = c.before.before in
-    let l = p.before.before in
-    at_yes (passed l.before) (least_answer p.plan-at.ensures c.if2.true l.loop.invariant.2)
+    let p = c in
+    let l = p in
+    at_yes (passed l.before.before.before.before.before) (least_answer p.plan_at-plan.ensures c.if-plan-eq0.true l.loop-interval.invariant.2)
 
-add_interval : tie.Need-overflow-add-interval invariant_loop decreases_loop
+add_interval : tie.Need-overflow_add-interval invariant_loop decreases_loop
 add_interval c =
-    let l = c.before.before.before.before in
-    let h = cap_most (passed l.before) in
-    omega (arith, c.before.before.before.loop-test.true)
+    let l = c in
+    let h = cap_most (passed l.before.before.before.before.before) in
+    omega (arith, c.loop-interval-test.true)
 
-loop_less : tie.Need-loop-smaller invariant_loop decreases_loop
-loop_less c = omega (arith, c.before.before.before.loop-test.true)
+loop_less : tie.Need-loop-interval-smaller invariant_loop decreases_loop
+loop_less c = omega (arith, c.loop-interval-test.true)
 
-loop_again : tie.Need-loop-preserved invariant_loop decreases_loop
+loop_again : tie.Need-loop-interval-preserved invariant_loop decreases_loop
 loop_again c =
-    let p = c.before.before in
-    let l = p.before.before in
-    let y : Accepted _ _ = record { sheet = passed l.before; interval = record { low = l.loop.invariant.0; high = p.before.loop-test.true } } in (
+    let p = c in
+    let l = p in
+    let y : Accepted _ _ = record { sheet = passed l.before.before.before.before.before; interval = record { low = l.loop-interval.invariant.0; high = p.loop-interval-test.true } } in (
       omega arith,
-      omega (arith, p.before.loop-test.true),
-      none_more l.loop.invariant.2 y p.plan-at.ensures c.if2.false,
+      omega (arith, p.loop-interval-test.true),
+      none_more l.loop-interval.invariant.2 y p.plan_at-plan.ensures c.if-plan-eq0.false,
     )
 
-returns_3 : tie.Need-returns-3 invariant_loop decreases_loop
+returns_3 : tie.Need-returns invariant_loop decreases_loop
 returns_3 c =
-    let l = c.before in
-    at_yes (passed l.before) (at_no (λ x. l.loop.invariant.2.none x.at x.interval.low (omega (arith, x.interval.high, c.loop-test.false)) x.plan) refl)
+    let l = c in
+    at_yes (passed l.before.before) (at_no (λ x. l.loop-interval.invariant.2.none x.at x.interval.low (omega (arith, x.interval.high, c.loop-interval-test.false)) x.plan) refl)
 
 pub least_interval_spec : {M : Type 1} → statement M
 least_interval_spec =
