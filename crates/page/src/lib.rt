@@ -1,5 +1,7 @@
 // The page of a plan for the cabinet door: its reservation table (modulo reservation table) as text, 44 characters a
 // line. The plan comes from the caller, as starts and instances; its dependences are not judged.
+#![tactic(auto)]
+
 ghost use Rattle.std.specs.Prelude.{◌≡◌, ◌≤◌, length};
 ghost use Rattle.sizes.specs.Sizes.{most_operations};
 ghost use Rattle.text.specs.Line.{refused};
