@@ -1,7 +1,7 @@
 -- Entries past R, N or E are no part of a sheet: an answer is judged alike for sheets that differ only there.
 -- Assumes nothing.
 use Rattle.std.specs.Prelude.{ℕ, ◌≡◌, refl, List}
-use Rattle.std.proofs.Common.{sym, ap₂, subst}
+use Rattle.std.proofs.Common.{ap₂, subst}
 use Rattle.sheet.specs.declared.Sheet.{Sheet}
 use Rattle.sheet.specs.Sheet.{InRange}
 use Rattle.sheet.specs.Questions.{at_no, at_yes}

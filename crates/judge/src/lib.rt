@@ -1,5 +1,7 @@
 // Examines another supplier's answer for a sheet, a plan or a denial with its tree: whether it is passed, and if not the
 // number of the refusal and the line at fault.
+#![tactic(auto)]
+
 ghost use Rattle.std.specs.Prelude.{◌≡◌, min, drop, take};
 ghost use Rattle.sheet.specs.Sheet.{InRange};
 ghost use Rattle.plan_lines.specs.Lines.{first_at, LinesFit};
@@ -29,7 +31,7 @@ const INTERVAL_LINE: usize = 2;
 const FIRST_AT: usize = 3;
 
 // What an answer is judged, and the line at fault, 0 where there is none.
-#[derive(Drop)]
+#[derive(Clone, Copy)]
 struct Examined {
     answer: usize,
     line: usize,

@@ -6,17 +6,17 @@ use borrow.Author.Rules.{rules}
 use Rattle.judge.proofs.judge.Statement.{statement}
 use Rattle.judge.proofs.judge.Tie as tie
 
-answer_requires : tie.Need-answer-requires
+answer_requires : tie.Need-answer-refusal-requires
 answer_requires c κs = search rules
 
-returns : tie.Need-returns
-returns c = sheet_refuses (λ (n : ℕ). n) c.before.answer.ensures c.if1.true refl
+returns : tie.Need-returns-then-refusal-ne0
+returns c = sheet_refuses (λ (n : ℕ). n) c.answer-refusal.ensures c.if-refusal-ne0.true refl
 
-text_examined_requires : tie.Need-text-examined-requires
-text_examined_requires c κs = sheet_accepted c.before.answer.ensures c.if1.false
+text_examined_requires : tie.Need-text_examined-examined-requires
+text_examined_requires c κs = sheet_accepted c.answer-refusal.ensures c.if-refusal-ne0.false
 
-returns_2 : tie.Need-returns-2
-returns_2 c = at_yes (sheet_accepted c.before.before.answer.ensures c.before.if1.false) c.text-examined.ensures.judged
+returns_2 : tie.Need-returns
+returns_2 c = at_yes (sheet_accepted c.answer-refusal.ensures c.if-refusal-ne0.false) c.text_examined-examined.ensures.judged
 
 pub judge_spec : {M : Type 1} → statement M
 judge_spec = tie.close (tie.spec answer_requires returns text_examined_requires returns_2)

@@ -14,50 +14,50 @@ use Rattle.judge.proofs.plan_examined.Tie as tie
 lesser_requires : tie.Need-lesser-requires
 lesser_requires c κs = search rules
 
-add_unreadable : tie.Need-overflow-add-unreadable
+add_unreadable : tie.Need-overflow_add-lesser
 add_unreadable c = search rules
 
 unreadable_requires : tie.Need-unreadable-requires
 unreadable_requires c κs = search rules
 
-returns : tie.Need-returns
+returns : tie.Need-returns-then-count-ops
 returns c =
-    let z = c.before.before.before in
-    another_count z.args.sheet z.args.plan z.requires.1 c.before.before.if1.true
-    (c.unreadable.ensures ∙ ap (λ (n : ℕ). unreadable_at (first_at + n)) c.before.lesser.ensures)
+    let z = c in
+    another_count z.args.sheet z.args.plan z.requires.1 c.if-count-ops.true
+    (c.unreadable.ensures ∙ ap (λ (n : ℕ). unreadable_at (first_at + n)) c.lesser.ensures)
 
 asked_requires : tie.Need-asked-requires
 asked_requires c κs = search rules
 
-returns_2 : tie.Need-returns-2
+returns_2 : tie.Need-returns-then-asked-ne0
 returns_2 c =
-    let z = c.before.before.before in
-    plan_interval z.args.sheet z.args.plan z.requires.1 c.before.before.if1.false
-    (no_interval z.requires.0 c.before.asked.ensures c.if2.true)
+    let z = c in
+    plan_interval z.args.sheet z.args.plan z.requires.1 c.if-count-ops.false
+    (no_interval z.requires.0 c.asked.ensures c.if-asked-ne0.true)
 
-first_broken_requires : tie.Need-first-broken-requires
+first_broken_requires : tie.Need-first_broken-broken-requires
 first_broken_requires c κs =
-    let z = c.before.before.before.before.before in
-    (z.requires.0, is_interval z.requires.0 c.before.before.before.asked.ensures c.before.before.if2.false)
+    let z = c in
+    (z.requires.0, is_interval z.requires.0 c.asked.ensures c.if-asked-ne0.false)
 
-returns_3 : tie.Need-returns-3
+returns_3 : tie.Need-returns-then-broken-ops
 returns_3 c =
-    let z = c.before.before.before.before.before.before.before in
-    plan_kept z.args.sheet z.args.plan z.requires.1 c.before.before.before.before.before.before.if1.false
-    (is_interval z.requires.0 c.before.before.before.before.before.asked.ensures c.before.before.before.before.if2.false)
-    (unbroken c.before.first-broken.ensures c.if3.true)
+    let z = c in
+    plan_kept z.args.sheet z.args.plan z.requires.1 c.if-count-ops.false
+    (is_interval z.requires.0 c.asked.ensures c.if-asked-ne0.false)
+    (unbroken c.first_broken-broken.ensures c.if-broken-ops.true)
 
-add_t12 : tie.Need-overflow-add-t12
+add_t12 : tie.Need-overflow_add-result
 add_t12 c =
-    let z = c.before.before.before.before.before.before.before in
-    omega (arith, (first_one c.before.first-broken.ensures c.if3.false).operation, ops_most z.requires.0)
+    let z = c in
+    omega (arith, (first_one c.first_broken-broken.ensures c.if-broken-ops.false).operation, ops_most z.requires.0)
 
-returns_4 : tie.Need-returns-4
+returns_4 : tie.Need-returns
 returns_4 c =
-    let z = c.before.before.before.before.before.before.before in
-    plan_broken z.args.sheet z.args.plan z.requires.1 c.before.before.before.before.before.before.if1.false
-    (is_interval z.requires.0 c.before.before.before.before.before.asked.ensures c.before.before.before.before.if2.false) _
-    (first_one c.before.first-broken.ensures c.if3.false)
+    let z = c in
+    plan_broken z.args.sheet z.args.plan z.requires.1 c.if-count-ops.false
+    (is_interval z.requires.0 c.asked.ensures c.if-asked-ne0.false) _
+    (first_one c.first_broken-broken.ensures c.if-broken-ops.false)
 
 pub plan_examined_spec : {M : Type 1} → statement M
 plan_examined_spec =

@@ -7,51 +7,51 @@ use borrow.Author.Rules.{rules}
 use Rattle.judge.proofs.tree_examined.Statement.{statement}
 use Rattle.judge.proofs.tree_examined.Tie as tie
 
-some_interval_requires : tie.Need-some-interval-requires
+some_interval_requires : tie.Need-some_interval-used-requires
 some_interval_requires c κs = search rules
 
-judge_from_requires : tie.Need-judge-from-requires
-judge_from_requires c κs = (c.before.before.requires, c.some-interval.ensures.is, omega arith, omega arith)
+judge_from_requires : tie.Need-judge_from-found-requires
+judge_from_requires c κs = (c.requires, c.some_interval-used.ensures.is, omega arith, omega arith)
 
 unreadable_requires : tie.Need-unreadable-requires
 unreadable_requires c κs = search rules
 
-returns : tie.Need-returns
+returns : tie.Need-returns-then-not-found
 returns c =
-    let j = c.before.before.before in
-    no_tree j.before.some-interval.ensures j.judge-from.ensures (not-true _ c.before.if1.true) c.unreadable.ensures
+    let j = c in
+    no_tree j.some_interval-used.ensures j.judge_from-found.ensures (not-true _ c.if-not-found.true) c.unreadable.ensures
 
-unreadable_requires_2 : tie.Need-unreadable-requires-2
+unreadable_requires_2 : tie.Need-unreadable-requires-then-found-text
 unreadable_requires_2 c κs = search rules
 
-returns_2 : tie.Need-returns-2
+returns_2 : tie.Need-returns-then-found-text
 returns_2 c =
-    let j = c.before.before.before.before.before in
-    more_after j.before.some-interval.ensures j.judge-from.ensures (not-false _ c.before.before.before.if1.false) c.before.if2.true
-    c.unreadable2.ensures
+    let j = c in
+    more_after j.some_interval-used.ensures j.judge_from-found.ensures (not-false _ c.if-not-found.false) c.if-found-text.true
+    c.unreadable-then-found-text.ensures
 
 asked_requires : tie.Need-asked-requires
 asked_requires c κs = search rules
 
-returns_3 : tie.Need-returns-3
+returns_3 : tie.Need-returns-then-asked-ne0
 returns_3 c =
-    let j = c.before.before.before.before.before.before in
-    tree_interval j.before.some-interval.ensures j.judge-from.ensures (not-false _ c.before.before.before.before.if1.false)
-    (omega (arith, c.before.before.if2.false)) (no_interval j.before.before.before.requires c.before.asked.ensures c.if3.true)
+    let j = c in
+    tree_interval j.some_interval-used.ensures j.judge_from-found.ensures (not-false _ c.if-not-found.false)
+    (omega (arith, c.if-found-text.false)) (no_interval j.requires c.asked.ensures c.if-asked-ne0.true)
 
-returns_4 : tie.Need-returns-4
+returns_4 : tie.Need-returns-then-found-ne0
 returns_4 c =
-    let j = c.before.before.before.before.before.before.before.before in
-    tree_fails j.before.some-interval.ensures j.judge-from.ensures (not-false _ c.before.before.before.before.before.before.if1.false)
-    (omega (arith, c.before.before.before.before.if2.false))
-    (is_interval j.before.before.before.requires c.before.before.before.asked.ensures c.before.before.if3.false) c.if4.true
+    let j = c in
+    tree_fails j.some_interval-used.ensures j.judge_from-found.ensures (not-false _ c.if-not-found.false)
+    (omega (arith, c.if-found-text.false))
+    (is_interval j.requires c.asked.ensures c.if-asked-ne0.false) c.if-found-ne0.true
 
-returns_5 : tie.Need-returns-5
+returns_5 : tie.Need-returns
 returns_5 c =
-    let j = c.before.before.before.before.before.before.before.before in
-    tree_passes j.before.some-interval.ensures j.judge-from.ensures (not-false _ c.before.before.before.before.before.before.if1.false)
-    (omega (arith, c.before.before.before.before.if2.false))
-    (is_interval j.before.before.before.requires c.before.before.before.asked.ensures c.before.before.if3.false) c.if4.false
+    let j = c in
+    tree_passes j.some_interval-used.ensures j.judge_from-found.ensures (not-false _ c.if-not-found.false)
+    (omega (arith, c.if-found-text.false))
+    (is_interval j.requires c.asked.ensures c.if-asked-ne0.false) c.if-found-ne0.false
 
 pub tree_examined_spec : {M : Type 1} → statement M
 tree_examined_spec =
