@@ -1,6 +1,8 @@
 // The lines of one interval: the answer, the interval, and then the loop or a line for each operation.
 // An inner layer, a crate of its own for the check's time. Callers give an answer of the plan at that interval, whose
 // numbers are small (`SmallAnswer`).
+#![tactic(auto)]
+
 ghost use Rattle.std.specs.Prelude.{◌≡◌, ◌+◌, ◌<◌, ◌≤◌, length, get_or, take};
 ghost use Rattle.sizes.specs.Sizes.{most_operations};
 ghost use Rattle.text.specs.Text.{over, buffer_of};
