@@ -1,5 +1,7 @@
 // All that the command `table` prints for the bytes of a sheet and a script: what each step answers, the table at the
 // end and its page, at the front of a lent buffer. The program `ask` prints these bytes.
+#![tactic(auto)]
+
 ghost use Rattle.std.specs.Prelude.{◌≡◌, ◌≤◌};
 ghost use Rattle.text.specs.Answers.{refusal_text};
 ghost use Rattle.text.specs.Line.{written_of};

@@ -16,7 +16,7 @@ use sheet::Sheet;
 use table_script::{Step, StepLine, read_step};
 
 // The place after the lines of the steps so far, and the table after them.
-#[derive(Drop)]
+#[derive(Clone, Copy)]
 pub struct Run {
     pub place: usize,
     pub table: Table,

@@ -20,61 +20,61 @@ use Rattle.table_command.proofs.put_refusal.Statement.{statement}
 use Rattle.table_command.proofs.put_refusal.Tie as tie
 
 -- the line of its own, and that it has room
-line_text_lem : (c : tie.After-count-line) → text_of c.count-line.result ≡ refusal_text c.before.before.before.args.answer
+line_text_lem : (c : tie.After-count_line) → text_of c.count_line.result ≡ refusal_text c.args.answer
 unfolding key_of
 line_text_lem c =
-    let s = c.before.before.before in
-    one_number answer_key s.args.answer (omega (arith, s.requires)) c.count-line.ensures ∙ sym (one_line (answer_line s.args.answer))
+    let s = c in
+    one_number answer_key s.args.answer (omega (arith, s.requires)) c.count_line.ensures ∙ sym (one_line (answer_line s.args.answer))
 
-line_room : (c : tie.After-count-line) → length (text_of c.count-line.result) ≤ 11
+line_room : (c : tie.After-count_line) → length (text_of c.count_line.result) ≤ 11
 line_room c =
-    let s = c.before.before.before in
+    let s = c in
     omega (arith, ap length (line_text_lem c), answer_most_lem s.args.answer s.requires)
 
 -- it stands at the front of the array, counted whole
-line_put : (c : tie.After-put-line) → (c.put-line.result ≡ length (text_of c.before.count-line.result)) × (c.put-line.new.0 ≡ over (text_of c.before.count-line.result) (replicate 11 0))
+line_put : (c : tie.After-put_line-count) → (c.put_line-count.result ≡ length (text_of c.count_line.result)) × (c.put_line-count.new.out ≡ over (text_of c.count_line.result) (replicate 11 0))
 line_put c =
-    let f = fitting (text_of c.before.count-line.result) (replicate 11 0) (line_room c.before) in
-    (c.put-line.ensures.0 ∙ f.0, c.put-line.ensures.1 ∙ f.1)
+    let f = fitting (text_of c.count_line.result) (replicate 11 0) (line_room c.before) in
+    (c.put_line-count.ensures.0 ∙ f.0, c.put_line-count.ensures.1 ∙ f.1)
 
-slice_aggregate_put_line : tie.Need-slice-aggregate-put-line
+slice_aggregate_put_line : tie.Need-slice_bounds-put_line-end
 slice_aggregate_put_line c = search rules
 
-count_line_requires : tie.Need-count-line-requires
+count_line_requires : tie.Need-count_line-requires
 count_line_requires c κs = search rules
 
-put_line_requires : tie.Need-put-line-requires
+put_line_requires : tie.Need-put_line-count-requires
 put_line_requires c κs = search rules
 
-array_share_prefix_line : tie.Need-array-share-prefix-line
+array_share_prefix_line : tie.Need-slice_bounds-line-end
 array_share_prefix_line c =
     let p = c.before.before in
     let e = line_put p in
-    omega (arith, e.0, ap length e.1, line_room p.before, length_over (text_of p.before.count-line.result) (replicate 11 0) (line_room p.before))
+    omega (arith, e.0, ap length e.1, line_room p.before, length_over (text_of p.count_line.result) (replicate 11 0) (line_room p.before))
 
-slice_aggregate_put_text : tie.Need-slice-aggregate-put-text
+slice_aggregate_put_text : tie.Need-slice_bounds-put_text-end
 slice_aggregate_put_text c =
     let p = c.before.before.before in
     let e = line_put p in
-    sym (length-take-le p.put-line.result p.put-line.new.0
-    (omega (arith, e.0, ap length e.1, line_room p.before, length_over (text_of p.before.count-line.result) (replicate 11 0) (line_room p.before))))
+    sym (length-take-le p.put_line-count.result p.put_line-count.new.out
+    (omega (arith, e.0, ap length e.1, line_room p.before, length_over (text_of p.count_line.result) (replicate 11 0) (line_room p.before))))
 
-put_text_requires : tie.Need-put-text-requires
+put_text_requires : tie.Need-put_text-requires
 put_text_requires c κs = search rules
 
-same_length : tie.Need-same-length
+same_length : tie.Need-shape_of-out
 same_length c = search rules
 
 returns : tie.Need-returns
 unfolding over
 returns c =
     let p = c.before.before.before.before.before.before in
-    let a = p.before.before.before.before.args in
+    let a = p.args in
     let e = line_put p in
-    let l = text_of p.before.count-line.result in
-    let t : take p.put-line.result p.put-line.new.0 ≡ refusal_text a.answer =
-    ap (take p.put-line.result) e.1 ∙ take_at l (drop (length l) (replicate 11 0)) p.put-line.result (sym e.0) ∙ line_text_lem p.before in
-    let w = c.before.before.put-text.ensures in
+    let l = text_of p.count_line.result in
+    let t : take p.put_line-count.result p.put_line-count.new.out ≡ refusal_text a.answer =
+    ap (take p.put_line-count.result) e.1 ∙ take_at l (drop (length l) (replicate 11 0)) p.put_line-count.result (sym e.0) ∙ line_text_lem p.before in
+    let w = c.put_text.ensures in
     (w.0 ∙ ap (λ (x : List ℕ). written_of x a.out.now) t, w.1 ∙ ap (λ (x : List ℕ). buffer_of x a.out.now) t)
 
 pub put_refusal_spec : {M : Type 1} → statement M

@@ -14,27 +14,27 @@ use borrow.Author.Rules.{rules}
 use Rattle.table_command.proofs.listing.entry_line.Statement.{statement}
 use Rattle.table_command.proofs.listing.entry_line.Tie as tie
 
-flag_requires : tie.Need-flag-requires
+flag_requires : tie.Need-flag-placed-requires
 flag_requires c κs = search rules
 
-cast_line_of : tie.Need-overflow-cast-line-of
-cast_line_of c = omega (arith, c.flag.ensures, bit_small c.before.args.p.placed)
+cast_line_of : tie.Need-overflow_cast-placed
+cast_line_of c = omega (arith, c.flag-placed.ensures, bit_small c.args.p.placed)
 
-cast_line_of_2 : tie.Need-overflow-cast-line-of-2
+cast_line_of_2 : tie.Need-overflow_cast-p
 cast_line_of_2 c = search rules
 
-cast_line_of_3 : tie.Need-overflow-cast-line-of-3
+cast_line_of_3 : tie.Need-overflow_cast-p-2
 cast_line_of_3 c = search rules
 
-line_of_requires : tie.Need-line-of-requires
+line_of_requires : tie.Need-line_of-requires
 line_of_requires c κs = search rules
 
 returns : tie.Need-returns
 unfolding key_of
 returns c =
-    let s = c.before.before.before.before in
+    let s = c in
     let p = s.args.p in
-    let f = c.before.before.before.flag in
+    let f = c.flag-placed in
     let x = cast_kept f.result (omega (arith, f.ensures, bit_small p.placed)) in
     let y = cast_kept p.start (omega (arith, s.requires.start)) in
     let z = cast_kept p.instance (omega (arith, s.requires.instance)) in

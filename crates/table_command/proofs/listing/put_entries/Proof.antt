@@ -14,60 +14,60 @@ use borrow.Author.Rules.{rules}
 use Rattle.table_command.proofs.listing.put_entries.Statement.{statement}
 use Rattle.table_command.proofs.listing.put_entries.Tie as tie
 
-abbrev invariant_loop : tie.invariant_loop
+abbrev invariant_loop : tie.invariant-loop-i
 invariant_loop out₀ at count table place₀ i₀ out place i = (i ≤ count) × Pasted at (lines_text (entry_lines i table)) out₀ out place
 
-abbrev decreases_loop : tie.decreases_loop
+abbrev decreases_loop : tie.decreases-loop-i
 decreases_loop out₀ at count table place₀ i₀ out place i = count - i
 
-loop_holds : tie.Need-loop-init invariant_loop decreases_loop
+loop_holds : tie.Need-loop-i-init invariant_loop decreases_loop
 loop_holds c =
-    let s = c.before in
-    (omega arith, pasted_as (sym (entries_none s.args.t4)) (pasted_none s.args.out.now s.args.at (omega (arith, s.requires.2))))
+    let s = c in
+    (omega arith, pasted_as (sym (entries_none s.args.table)) (pasted_none s.args.out.now s.args.at (omega (arith, s.requires.2))))
 
-mul_entry_line : tie.Need-overflow-mul-entry-line invariant_loop decreases_loop
-mul_entry_line c = omega (arith, c.before.loop-test.true, c.before.before.before.before.requires.0)
+mul_entry_line : tie.Need-offset_bounds-table-i invariant_loop decreases_loop
+mul_entry_line c = omega (arith, c.loop-i-test.true, c.requires.0)
 
-element_copy_out_entry_line : tie.Need-element-copy-out-entry-line invariant_loop decreases_loop
-element_copy_out_entry_line c = omega (arith, c.before.loop-test.true, c.before.before.before.before.requires.0)
+element_copy_out_entry_line : tie.Need-bounds-table-i invariant_loop decreases_loop
+element_copy_out_entry_line c = omega (arith, c.loop-i-test.true, c.requires.0)
 
-entry_line_requires : tie.Need-entry-line-requires invariant_loop decreases_loop
-entry_line_requires c κs = c.before.before.before.before.before.requires.1 c.before.before.before.loop.i
+entry_line_requires : tie.Need-entry_line-requires invariant_loop decreases_loop
+entry_line_requires c κs = c.requires.1 c.loop-i.i
 
-put_line_at_requires : tie.Need-put-line-at-requires invariant_loop decreases_loop
+put_line_at_requires : tie.Need-put_line_at-place-requires invariant_loop decreases_loop
 put_line_at_requires c κs =
-    let s = c.before.before.before.before.before.before in
-    let table = s.args.t4 in
-    let l = c.before.before.before.before.loop in
+    let s = c in
+    let table = s.args.table in
+    let l = c.loop-i in
     let p = l.invariant.1 in
     omega
-    (arith, ap length c.entry-line.ensures, entry_most_lem (placement_at table l.i) (s.requires.1 l.i), entries_most l.i table s.requires.1, p.ends, p.size, s.requires.0, s.requires.2, c.before.before.before.loop-test.true)
+    (arith, ap length c.entry_line.ensures, entry_most_lem (placement_at table l.i) (s.requires.1 l.i), entries_most l.i table s.requires.1, p.ends, p.size, s.requires.0, s.requires.2, c.loop-i-test.true)
 
-add_i : tie.Need-overflow-add-i invariant_loop decreases_loop
+add_i : tie.Need-overflow_step-i invariant_loop decreases_loop
 add_i c = search rules
 
-loop_less : tie.Need-loop-smaller invariant_loop decreases_loop
+loop_less : tie.Need-loop-i-smaller invariant_loop decreases_loop
 loop_less c = search rules
 
-loop_again : tie.Need-loop-preserved invariant_loop decreases_loop
+loop_again : tie.Need-loop-i-preserved invariant_loop decreases_loop
 loop_again c =
-    let l = c.before.before.before.before.before.before.before in
-    let s = l.before.before in
+    let l = c in
+    let s = l in
     let h = s.requires.2 in (
-      omega (arith, c.before.before.before.before.before.before.loop-test.true),
-      pasted_as (sym (entries_more l.loop.i s.args.t4))
-          (pasted_then (omega arith) l.loop.invariant.1 (pasted_as c.before.before.before.entry-line.ensures c.before.before.put-line-at.ensures)),
+      omega (arith, c.loop-i-test.true),
+      pasted_as (sym (entries_more l.loop-i.i s.args.table))
+          (pasted_then (omega arith) l.loop-i.invariant.1 (pasted_as c.entry_line.ensures c.put_line_at-place.ensures)),
     )
 
-same_length : tie.Need-same-length invariant_loop decreases_loop
-same_length c = c.before.loop.invariant.1.size
+same_length : tie.Need-shape_of-out invariant_loop decreases_loop
+same_length c = c.loop-i.invariant.1.size
 
 returns : tie.Need-returns invariant_loop decreases_loop
 returns c =
-    let l = c.before.loop in
-    let a = c.before.before.before.args in
-    let e : l.i ≡ a.count = omega (arith, l.invariant.0, c.loop-test.false) in
-    pasted_as (ap (λ (k : ℕ). lines_text (entry_lines k a.t4)) e) l.invariant.1
+    let l = c.loop-i in
+    let a = c.args in
+    let e : l.i ≡ a.count = omega (arith, l.invariant.0, c.loop-i-test.false) in
+    pasted_as (ap (λ (k : ℕ). lines_text (entry_lines k a.table)) e) l.invariant.1
 
 pub put_entries_spec : {M : Type 1} → statement M
 put_entries_spec =

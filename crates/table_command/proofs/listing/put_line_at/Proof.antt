@@ -11,36 +11,36 @@ use borrow.Author.Rules.{rules}
 use Rattle.table_command.proofs.listing.put_line_at.Statement.{statement}
 use Rattle.table_command.proofs.listing.put_line_at.Tie as tie
 
-sub_put_line : tie.Need-overflow-sub-put-line
+sub_put_line : tie.Need-slice_bounds-put_line-count
 sub_put_line c = search rules
 
-part_put_line_start : tie.Need-slice-bounds-put-line-start
+part_put_line_start : tie.Need-slice_bounds-put_line-start
 part_put_line_start c = search rules
 
-part_put_line_end : tie.Need-slice-bounds-put-line-end
+part_put_line_end : tie.Need-slice_bounds-put_line-end
 part_put_line_end c = search rules
 
-put_line_requires : tie.Need-put-line-requires
+put_line_requires : tie.Need-put_line-requires
 put_line_requires c κs = search rules
 
-add_result : tie.Need-overflow-add-result
+add_result : tie.Need-overflow_add-result
 add_result c =
-    let s = c.before.before.before.before.before in
+    let s = c in
     let a = s.args in
-    let p = c.before.before.put-line in
+    let p = c.put_line in
     let h = s.requires in
     let n = part_length a.out.now a.at (omega arith) in
     let f = fitting (text_of a.line) (take (length a.out.now - a.at) (drop a.at a.out.now)) (omega arith) in
-    omega (arith, p.ensures.0, f.0, s.well-formed.0.0)
+    omega (arith, p.ensures.0, f.0, s.well_formed.0.0)
 
-same_length : tie.Need-same-length
+same_length : tie.Need-shape_of-out
 same_length c = search rules
 
 returns : tie.Need-returns
 returns c =
-    let s = c.before.before.before.before.before in
+    let s = c in
     let a = s.args in
-    let p = c.before.before.put-line in
+    let p = c.put_line in
     let h = s.requires in
     let n = part_length a.out.now a.at (omega arith) in
     let f = fitting (text_of a.line) (take (length a.out.now - a.at) (drop a.at a.out.now)) (omega arith) in
