@@ -1,4 +1,6 @@
 // The text of plans: the lines that leastplan prints for an interval, and all that it prints for the bytes of a sheet.
+#![tactic(auto)]
+
 ghost use Rattle.std.specs.Prelude.{◌≡◌, ◌≤◌, length};
 ghost use Rattle.text.specs.Text.{over};
 ghost use Rattle.text.specs.Sizes.{three_digits};
@@ -20,7 +22,7 @@ pub const ROOM: usize = 8192;
 
 // The count of bytes of a plan's text, or why there is none; with 5 the first bad closed walk.
 #[repr(C)]
-#[derive(Drop)]
+#[derive(Clone, Copy)]
 pub struct PlanWritten {
     pub answer: usize,
     pub count: usize,

@@ -7,28 +7,28 @@ use borrow.Author.Rules.{rules}
 use Rattle.report.proofs.interval_text.Statement.{statement}
 use Rattle.report.proofs.interval_text.Tie as tie
 
-asked_requires : tie.Need-asked-requires
+asked_requires : tie.Need-asked-refusal-requires
 asked_requires c κs = search rules
 
-returns : tie.Need-returns
-returns c = refusal c.before.asked.ensures c.if1.true
+returns : tie.Need-returns-then-refusal-ne0
+returns c = refusal c.asked-refusal.ensures c.if-refusal-ne0.true
 
-plan_at_requires : tie.Need-plan-at-requires
+plan_at_requires : tie.Need-plan_at-a-requires
 plan_at_requires c κs = search rules
 
-put_interval_requires : tie.Need-put-interval-requires
+put_interval_requires : tie.Need-put_interval-requires
 put_interval_requires c κs =
-    let y = accepted c.before.before.before.asked.ensures c.before.before.if1.false in
-    small y.sheet y.interval c.before.plan-at.ensures
+    let y = accepted c.asked-refusal.ensures c.if-refusal-ne0.false in
+    small y.sheet y.interval c.plan_at-a.ensures
 
-same_length : tie.Need-same-length
+same_length : tie.Need-shape_of-out
 same_length c = search rules
 
-returns_2 : tie.Need-returns-2
+returns_2 : tie.Need-returns
 returns_2 c =
-    let w = c.before.before.put-interval.ensures in
-    let e = c.before.before.before.before.before in
-    made (accepted e.before.asked.ensures e.if1.false) c.before.before.before.before.plan-at.ensures w.0 w.1
+    let w = c.put_interval.ensures in
+    let e = c in
+    made (accepted e.asked-refusal.ensures e.if-refusal-ne0.false) c.plan_at-a.ensures w.0 w.1
 
 pub interval_text_spec : {M : Type 1} → statement M
 interval_text_spec =

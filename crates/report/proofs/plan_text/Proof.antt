@@ -7,23 +7,23 @@ use borrow.Author.Rules.{rules}
 use Rattle.report.proofs.plan_text.Statement.{statement}
 use Rattle.report.proofs.plan_text.Tie as tie
 
-plan_at_requires : tie.Need-plan-at-requires
+plan_at_requires : tie.Need-plan_at-a-requires
 plan_at_requires c κs = search rules
 
-returns : tie.Need-returns
-returns c = refusal c.before.before.before.plan-at.ensures (λ z. omega (arith, c.before.if1.true))
+returns : tie.Need-returns-then-a-ne0
+returns c = refusal c.plan_at-a.ensures (λ z. omega (arith, c.if-a-ne0.true))
 
-put_interval_requires : tie.Need-put-interval-requires
-put_interval_requires c κs = plan_small c.before.before.before.plan-at.ensures c.before.if1.false
+put_interval_requires : tie.Need-put_interval-written-requires
+put_interval_requires c κs = plan_small c.plan_at-a.ensures c.if-a-ne0.false
 
-same_length : tie.Need-same-length
+same_length : tie.Need-shape_of-out
 same_length c = search rules
 
-returns_2 : tie.Need-returns-2
+returns_2 : tie.Need-returns
 returns_2 c =
-    let w = c.before.before.put-interval.ensures in
-    let e = c.before.before.before.before in
-    made e.before.before.plan-at.ensures e.if1.false w.0 w.1
+    let w = c.put_interval-written.ensures in
+    let e = c in
+    made e.plan_at-a.ensures e.if-a-ne0.false w.0 w.1
 
 pub plan_text_spec : {M : Type 1} → statement M
 plan_text_spec =

@@ -17,31 +17,31 @@ use borrow.Author.Rules.{rules}
 use Rattle.report.proofs.print.Statement.{statement}
 use Rattle.report.proofs.print.Tie as tie
 
-read_requires : tie.Need-read-requires
+read_requires : tie.Need-read-read-requires
 read_requires c κs = search rules
 
-put_answer_requires : tie.Need-put-answer-requires
+put_answer_requires : tie.Need-put_answer-requires
 put_answer_requires c κs =
-    let e = ap (λ (x : ReadAnswer). x.answer) c.before.before.read.ensures in
-    let h = read_small c.before.before.before.before.before.args.bytes.now in
+    let e = ap (λ (x : ReadAnswer). x.answer) c.read-read.ensures in
+    let h = read_small c.args.bytes.now in
     (omega arith, omega arith)
 
-same_length : tie.Need-same-length
+same_length : tie.Need-shape_of-out-then-answer-ne0
 same_length c = search rules
 
-returns : tie.Need-returns
+returns : tie.Need-returns-then-answer-ne0
 returns c =
-    let bs = c.before.before.before.before.before.before.before.before.args.bytes.now in
-    let r = c.before.before.before.before.before.read in
+    let bs = c.args.bytes.now in
+    let r = c.read-read in
     let e : r.result.answer ≡ (read_of bs).answer = ap (λ (x : ReadAnswer). x.answer) r.ensures in
     let h = read_small bs in
-    let f = c.before.before.put-answer.ensures in
+    let f = c.put_answer.ensures in
     let b = answer_most_lem r.result.answer (omega arith) in
     let q = f.0 in
-    let m = c.before.before.before.before.before.before.before.before.requires in
+    let m = c.requires in
     record {
       lines = answer_line r.result.answer ∷ [];
-      holds = subst (λ (n : ℕ). Printed bs (answer_line n ∷ [])) (sym e) (refused (λ z. c.before.before.before.before.if1.true (e ∙ z)));
+      holds = subst (λ (n : ℕ). Printed bs (answer_line n ∷ [])) (sym e) (refused (λ z. c.if-answer-ne0.true (e ∙ z)));
       place = f.0;
       buffer = f.1;
       fits = omega arith;
@@ -49,21 +49,21 @@ returns c =
 
 run_requires : tie.Need-run-requires
 run_requires c κs =
-    let bs = c.before.before.before.before.before.before.args.bytes.now in
-    let r = c.before.before.before.read in
+    let bs = c.args.bytes.now in
+    let r = c.read-read in
     let e = ap (λ (x : ReadAnswer). x.answer) r.ensures in
     let g = ap (λ (x : ReadAnswer). x.sheet) r.ensures in
-    (subst InRange (sym g) (read_in_range bs (sym e ∙ c.before.before.if1.false)), c.before.before.before.before.before.before.requires)
+    (subst InRange (sym g) (read_in_range bs (sym e ∙ c.if-answer-ne0.false)), c.requires)
 
-same_length_2 : tie.Need-same-length-2
+same_length_2 : tie.Need-shape_of-out
 same_length_2 c = search rules
 
-returns_2 : tie.Need-returns-2
+returns_2 : tie.Need-returns
 returns_2 c =
-    let r = c.before.before.before.before.before.before.read in
+    let r = c.read-read in
     let e = ap (λ (x : ReadAnswer). x.answer) r.ensures in
     let g = ap (λ (x : ReadAnswer). x.sheet) r.ensures in
-    weaken (λ ls t. read (sym e ∙ c.before.before.before.before.before.if1.false) (subst (λ (s : Sheet). Run s 1 ls) g t)) c.before.before.run.ensures
+    weaken (λ ls t. read (sym e ∙ c.if-answer-ne0.false) (subst (λ (s : Sheet). Run s 1 ls) g t)) c.run.ensures
 
 pub print_spec : {M : Type 1} → statement M
 print_spec =

@@ -16,23 +16,23 @@ use borrow.Author.Rules.{rules}
 use Rattle.report.proofs.put_answer.Statement.{statement}
 use Rattle.report.proofs.put_answer.Tie as tie
 
-count_line_requires : tie.Need-count-line-requires
+count_line_requires : tie.Need-count_line-requires
 count_line_requires c κs = search rules
 
-put_line_requires : tie.Need-put-line-requires
+put_line_requires : tie.Need-put_line-requires
 put_line_requires c κs = search rules
 
-same_length : tie.Need-same-length
+same_length : tie.Need-shape_of-out
 same_length c = search rules
 
 returns : tie.Need-returns
 unfolding key_of
 returns c =
-    let s = c.before.before.before.before.before.before in
+    let s = c in
     let n = s.args.answer in
     let old = s.args.out.now in
-    let p = c.before.before.put-line.ensures in
-    let t : text_of c.before.before.before.count-line.result ≡ refusal_text n = one_number answer_key n (omega (arith, s.requires.0)) c.before.before.before.count-line.ensures ∙ sym (one_line (answer_line n)) in
+    let p = c.put_line.ensures in
+    let t : text_of c.count_line.result ≡ refusal_text n = one_number answer_key n (omega (arith, s.requires.0)) c.count_line.ensures ∙ sym (one_line (answer_line n)) in
     let b = answer_most_lem n s.requires.0 in
     let h = s.requires.1 in
     let g = fitting (refusal_text n) old (omega arith) in (
