@@ -1,4 +1,6 @@
 // Slot order: which operation of a pair of rivals has the smaller slot in the plan at an interval.
+#![tactic(auto)]
+
 ghost use Rattle.pair_order.specs.Answers.{SlotOrderAt};
 
 use pair_order::{SlotOrder, order_in};

@@ -15,53 +15,53 @@ use borrow.Author.Rules.{rules}
 use Rattle.command_lines.proofs.cells.rows.Statement.{statement}
 use Rattle.command_lines.proofs.cells.rows.Tie as tie
 
-abbrev invariant_loop : tie.invariant_loop
+abbrev invariant_loop : tie.invariant-loop-i
 invariant_loop ops interval table ls₀ i₀ ls i = (i ≤ ops) × Shows ls (answer_line 0 ∷ interval_line interval ∷ each i (λ k. row_line ops (cell table k)))
 
-abbrev decreases_loop : tie.decreases_loop
+abbrev decreases_loop : tie.decreases-loop-i
 decreases_loop ops interval table ls₀ i₀ ls i = ops - i
 
-headed_requires : tie.Need-headed-requires invariant_loop decreases_loop
+headed_requires : tie.Need-headed-ls-requires invariant_loop decreases_loop
 headed_requires c κs = (omega arith, c.requires.1)
 
-loop_holds : tie.Need-loop-init invariant_loop decreases_loop
+loop_holds : tie.Need-loop-i-init invariant_loop decreases_loop
 unfolding each
-loop_holds c = (omega arith, c.headed.ensures)
+loop_holds c = (omega arith, c.headed-ls.ensures)
 
-mul_row : tie.Need-overflow-mul-row invariant_loop decreases_loop
-mul_row c = let h = c.before.before.before.requires.0 in omega arith
+mul_row : tie.Need-offset_bounds-table-i invariant_loop decreases_loop
+mul_row c = let h = c.requires.0 in omega arith
 
-array_copy_out_row : tie.Need-array-copy-out-row invariant_loop decreases_loop
-array_copy_out_row c = let h = c.before.before.before.requires.0 in omega arith
+array_copy_out_row : tie.Need-bounds-table-i invariant_loop decreases_loop
+array_copy_out_row c = let h = c.requires.0 in omega arith
 
-row_line_requires : tie.Need-row-line-requires invariant_loop decreases_loop
-row_line_requires c κs = c.before.before.before.before.requires.0
+row_line_requires : tie.Need-row_line-requires invariant_loop decreases_loop
+row_line_requires c κs = c.requires.0
 
-with_requires : tie.Need-with-requires invariant_loop decreases_loop
+with_requires : tie.Need-with-ls-requires invariant_loop decreases_loop
 with_requires c κs = search rules
 
-add_i : tie.Need-overflow-add-i invariant_loop decreases_loop
-add_i c = let h = c.before.before.before.before.before.before.requires.0 in omega arith
+add_i : tie.Need-overflow_step-i invariant_loop decreases_loop
+add_i c = let h = c.requires.0 in omega arith
 
-loop_less : tie.Need-loop-smaller invariant_loop decreases_loop
+loop_less : tie.Need-loop-i-smaller invariant_loop decreases_loop
 loop_less c = omega arith
 
-loop_again : tie.Need-loop-preserved invariant_loop decreases_loop
+loop_again : tie.Need-loop-i-preserved invariant_loop decreases_loop
 loop_again c =
-    let l = c.before.row_Line in
-    let t = c.before.before.before.before.loop in
-    let s = c.before.before.before.before.before.before in
+    let l = c.row_line in
+    let t = c.loop-i in
+    let s = c in
     let h = s.requires.0 in
     let w : length l.result.values ≡ most_values = search rules in (
       omega arith,
-      each_added (λ k. row_line s.args.ops (cell s.args.t3 k)) t.invariant.1 (omega (arith, c.before.before.before.loop-test.true)) l.result w l.ensures c.with.ensures,
+      each_added (λ k. row_line s.args.ops (cell s.args.table k)) t.invariant.1 (omega (arith, c.loop-i-test.true)) l.result w l.ensures c.with-ls.ensures,
     )
 
 returns : tie.Need-returns invariant_loop decreases_loop
 returns c =
-    let l = c.before.loop in
-    let a = c.before.before.before.args in
-    subst (λ (n : ℕ). Shows l.ls (answer_line 0 ∷ interval_line a.interval ∷ each n (λ k. row_line a.ops (cell a.t3 k)))) (omega (arith, l.invariant.0, c.loop-test.false)) l.invariant.1
+    let l = c.loop-i in
+    let a = c.args in
+    subst (λ (n : ℕ). Shows l.ls (answer_line 0 ∷ interval_line a.interval ∷ each n (λ k. row_line a.ops (cell a.table k)))) (omega (arith, l.invariant.0, c.loop-i-test.false)) l.invariant.1
 
 pub rows_spec : {M : Type 1} → statement M
 rows_spec =

@@ -16,7 +16,7 @@ use Rattle.command_lines.proofs.parts.alone.Tie as tie
 none_requires : tie.Need-none-requires
 none_requires c κs = search rules
 
-count_line_requires : tie.Need-count-line-requires
+count_line_requires : tie.Need-count_line-requires
 count_line_requires c κs = search rules
 
 with_requires : tie.Need-with-requires
@@ -25,10 +25,10 @@ with_requires c κs = search rules
 returns : tie.Need-returns
 unfolding key_of
 returns c =
-    let l = c.before.count-line in
-    let s = c.before.before.before in
+    let l = c.count_line in
+    let s = c in
     let w : length l.result.values ≡ most_values = search rules in
-    added (subst (λ (ls : Lines). Shows ls []) (sym c.before.before.none.ensures) nothing) (omega arith) l.result (answer_line s.args.answer) w
+    added (subst (λ (ls : Lines). Shows ls []) (sym c.none.ensures) nothing) (omega arith) l.result (answer_line s.args.answer) w
     (one 8 s.args.answer l.result s.requires l.ensures) c.with.ensures
 
 pub alone_spec : {M : Type 1} → statement M

@@ -14,50 +14,50 @@ use borrow.Author.Rules.{rules}
 use Rattle.command_lines.proofs.parts.bound.Statement.{statement}
 use Rattle.command_lines.proofs.parts.bound.Tie as tie
 
-count_line_requires : tie.Need-count-line-requires
+count_line_requires : tie.Need-count_line-requires
 count_line_requires c κs = search rules
 
-with_requires : tie.Need-with-requires
+with_requires : tie.Need-with-answered-requires
 with_requires c κs = search rules
 
 -- the answer's line
-answered : (c : tie.After-with) (want : List Line) → Shows c.before.before.args.ls want → Shows c.with.result (want ++ (answer_line c.before.before.args.answer ∷ []))
+answered : (c : tie.After-with-answered) (want : List Line) → Shows c.args.ls want → Shows c.with-answered.result (want ++ (answer_line c.args.answer ∷ []))
 unfolding key_of
 answered c want shows =
-    let l = c.before.count-line in
-    let s = c.before.before in
+    let l = c.count_line in
+    let s = c in
     let w : length l.result.values ≡ most_values = search rules in
     let n = shows.count in
     let h = s.requires.0 in
-    added shows (omega arith) l.result (answer_line s.args.answer) w (one 8 s.args.answer l.result s.requires.1 l.ensures) c.with.ensures
+    added shows (omega arith) l.result (answer_line s.args.answer) w (one 8 s.args.answer l.result s.requires.1 l.ensures) c.with-answered.ensures
 
-returns : tie.Need-returns
+returns : tie.Need-returns-then-answer-ne0
 returns c =
-    let a = c.before.before.before.args in
+    let a = c.args in
     λ want shows.
-    subst (λ (x : List Line). Shows c.before.with.result (want ++ x)) (sym (bound_refused_lem (key_of a.key) a.answer a.value c.if1.true)) (answered c.before want shows)
+    subst (λ (x : List Line). Shows c.with-answered.result (want ++ x)) (sym (bound_refused_lem (key_of a.key) a.answer a.value c.if-answer-ne0.true)) (answered c.before want shows)
 
-count_line_requires_2 : tie.Need-count-line-requires-2
+count_line_requires_2 : tie.Need-count_line-requires-2
 count_line_requires_2 c κs = search rules
 
-with_requires_2 : tie.Need-with-requires-2
+with_requires_2 : tie.Need-with-requires
 with_requires_2 c κs = search rules
 
-returns_2 : tie.Need-returns-2
+returns_2 : tie.Need-returns
 returns_2 c =
-    let l = c.before.count-line2 in
-    let s = c.before.before.before.before.before in
+    let l = c.count_line-2 in
+    let s = c in
     let a = s.args in
     let w : length l.result.values ≡ most_values = search rules in
     λ want shows.
     let n = shows.count in
     let h = s.requires.0 in
     let m = length-append want (answer_line a.answer ∷ []) in
-    subst (Shows c.with2.result)
+    subst (Shows c.with.result)
     (append_assoc want (answer_line a.answer ∷ []) (count_line (key_of a.key) a.value ∷ [])
-    ∙ ap (λ (x : List Line). want ++ x) (sym (bound_given (key_of a.key) a.answer a.value c.before.before.if1.false)))
+    ∙ ap (λ (x : List Line). want ++ x) (sym (bound_given (key_of a.key) a.answer a.value c.if-answer-ne0.false)))
     (added (answered c.before.before.before want shows) (omega arith) l.result (count_line (key_of a.key) a.value) w
-    (one a.key a.value l.result s.requires.2 l.ensures) c.with2.ensures)
+    (one a.key a.value l.result s.requires.2 l.ensures) c.with.ensures)
 
 pub bound_spec : {M : Type 1} → statement M
 bound_spec =

@@ -14,7 +14,7 @@ use Rattle.command_lines.proofs.parts.headed.Tie as tie
 alone_requires : tie.Need-alone-requires
 alone_requires c κs = search rules
 
-count_line_requires : tie.Need-count-line-requires
+count_line_requires : tie.Need-count_line-requires
 count_line_requires c κs = search rules
 
 with_requires : tie.Need-with-requires
@@ -23,10 +23,10 @@ with_requires c κs = search rules
 returns : tie.Need-returns
 unfolding key_of
 returns c =
-    let l = c.before.count-line in
-    let s = c.before.before.before in
+    let l = c.count_line in
+    let s = c in
     let w : length l.result.values ≡ most_values = search rules in
-    added c.before.before.alone.ensures (omega arith) l.result (interval_line s.args.interval) w
+    added c.alone.ensures (omega arith) l.result (interval_line s.args.interval) w
     (one 9 s.args.interval l.result s.requires.1 l.ensures) c.with.ensures
 
 pub headed_spec : {M : Type 1} → statement M

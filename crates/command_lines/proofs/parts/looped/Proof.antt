@@ -14,7 +14,7 @@ use borrow.Author.Rules.{rules}
 use Rattle.command_lines.proofs.parts.looped.Statement.{statement}
 use Rattle.command_lines.proofs.parts.looped.Tie as tie
 
-numbers_line_requires : tie.Need-numbers-line-requires
+numbers_line_requires : tie.Need-numbers_line-requires
 numbers_line_requires c κs = search rules
 
 with_requires : tie.Need-with-requires
@@ -23,8 +23,8 @@ with_requires c κs = search rules
 returns : tie.Need-returns
 unfolding key_of
 returns c =
-    let l = c.before.numbers-line in
-    let s = c.before.before in
+    let l = c.numbers_line in
+    let s = c in
     let w : length l.result.values ≡ most_values = search rules in
     λ want shows.
     let n = shows.count in

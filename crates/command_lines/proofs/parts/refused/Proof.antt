@@ -12,26 +12,26 @@ use Rattle.command_lines.proofs.parts.refused.Statement.{statement}
 use Rattle.command_lines.proofs.parts.refused.Tie as tie
 
 headed_requires : tie.Need-headed-requires
-headed_requires c κs = let p = c.before.requires.0 in (p.few, p.interval c.if1.true)
+headed_requires c κs = let p = c.requires.0 in (p.few, p.interval c.if-answer-eq-INFEASIBLE.true)
 
 looped_requires : tie.Need-looped-requires
-looped_requires c κs = let n = c.headed.ensures.count in (omega arith, c.before.before.requires.0.edges c.before.if1.true)
+looped_requires c κs = let n = c.headed.ensures.count in (omega arith, c.requires.0.edges c.if-answer-eq-INFEASIBLE.true)
 
-returns : tie.Need-returns
+returns : tie.Need-returns-then-answer-eq-INFEASIBLE
 returns c =
-    let a = c.before.before.before.args in
+    let a = c.args in
     λ given.
-    subst (Shows c.looped.result) (sym (at_loop a.answer a.interval (take a.count a.edges) given c.before.before.if1.true))
-    (c.looped.ensures (answer_line a.answer ∷ interval_line a.interval ∷ []) c.before.headed.ensures)
+    subst (Shows c.looped.result) (sym (at_loop a.answer a.interval (take a.count a.edges) given c.if-answer-eq-INFEASIBLE.true))
+    (c.looped.ensures (answer_line a.answer ∷ interval_line a.interval ∷ []) c.headed.ensures)
 
 alone_requires : tie.Need-alone-requires
 alone_requires c κs = search rules
 
-returns_2 : tie.Need-returns-2
+returns_2 : tie.Need-returns
 returns_2 c =
-    let a = c.before.before.args in
+    let a = c.args in
     λ given.
-    subst (Shows c.alone.result) (sym (at_else a.answer a.interval (take a.count a.edges) given c.before.before.requires.1 c.before.if1.false)) c.alone.ensures
+    subst (Shows c.alone.result) (sym (at_else a.answer a.interval (take a.count a.edges) given c.requires.1 c.if-answer-eq-INFEASIBLE.false)) c.alone.ensures
 
 pub refused_spec : {M : Type 1} → statement M
 refused_spec =

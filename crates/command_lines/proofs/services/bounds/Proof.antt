@@ -18,39 +18,39 @@ use Rattle.command_lines.proofs.services.bounds.Tie as tie
 empty : (c : tie.After-none) → Shows c.none.result []
 empty c = subst (λ (ls : Lines). Shows ls []) (sym c.none.ensures) nothing
 
-recurrence_bound_requires : tie.Need-recurrence-bound-requires
+recurrence_bound_requires : tie.Need-recurrence_bound-recurrence-requires
 recurrence_bound_requires c κs = search rules
 
 none_requires : tie.Need-none-requires
 none_requires c κs = search rules
 
-bound_requires : tie.Need-bound-requires
+bound_requires : tie.Need-bound-first-requires
 bound_requires c κs =
     let n = (empty c).count in
-    let h = recurrence_few c.before.before.requires c.before.recurrence-bound.ensures in
+    let h = recurrence_few c.requires c.recurrence_bound-recurrence.ensures in
     (omega arith, h.0, h.1)
 
 -- the recurrence bound's lines
-first : (c : tie.After-bound) → let r = c.before.before.recurrence-bound.result in Shows c.bound.result (bound_lines recurrence_key r.answer r.value)
+first : (c : tie.After-bound-first) → let r = c.recurrence_bound-recurrence.result in Shows c.bound-first.result (bound_lines recurrence_key r.answer r.value)
 unfolding key_of
-first c = c.bound.ensures [] (empty c.before)
+first c = c.bound-first.ensures [] (empty c.before)
 
-resource_bound_requires : tie.Need-resource-bound-requires
+resource_bound_requires : tie.Need-resource_bound-resource-requires
 resource_bound_requires c κs = search rules
 
-bound_requires_2 : tie.Need-bound-requires-2
+bound_requires_2 : tie.Need-bound-requires
 bound_requires_2 c κs =
-    let r = c.before.before.before.recurrence-bound.result in
+    let r = c.recurrence_bound-recurrence.result in
     let n = (first c.before).count in
     let m = bound_short recurrence_key r.answer r.value in
-    let h = resource_few c.before.before.before.before.requires c.resource-bound.ensures in
+    let h = resource_few c.requires c.resource_bound-resource.ensures in
     (omega arith, h.0, h.1)
 
 returns : tie.Need-returns
 unfolding key_of
 returns c =
-    let r = c.before.before.before.before.recurrence-bound in
-    lists (c.bound2.ensures (bound_lines recurrence_key r.result.answer r.result.value) (first c.before.before)) (bounds r.ensures c.before.resource-bound.ensures)
+    let r = c.recurrence_bound-recurrence in
+    lists (c.bound.ensures (bound_lines recurrence_key r.result.answer r.result.value) (first c.before.before)) (bounds r.ensures c.resource_bound-resource.ensures)
 
 pub bounds_spec : {M : Type 1} → statement M
 bounds_spec =

@@ -10,7 +10,7 @@ use borrow.Author.Rules.{rules}
 use Rattle.command_lines.proofs.services.separations.Statement.{statement}
 use Rattle.command_lines.proofs.services.separations.Tie as tie
 
-bad_walk_requires : tie.Need-bad-walk-requires
+bad_walk_requires : tie.Need-bad_walk-walk-requires
 bad_walk_requires c κs = search rules
 
 separations_requires : tie.Need-separations-requires
@@ -18,22 +18,22 @@ separations_requires c κs = search rules
 
 rows_requires : tie.Need-rows-requires
 rows_requires c κs =
-    let w = c.before.before.before in
-    let ok = w.before.requires in
-    (ops_most ok, walk_inside ok w.bad-walk.ensures c.before.if1.true)
+    let w = c in
+    let ok = w.requires in
+    (ops_most ok, walk_inside ok w.bad_walk-walk.ensures c.if-walk-eq0.true)
 
-returns : tie.Need-returns
+returns : tie.Need-returns-then-walk-eq0
 returns c =
-    let w = c.before.before.before.before.bad-walk in
-    lists (subst (Shows c.rows.result) (sym (at_given _ _ _ _ c.before.before.if1.true)) c.rows.ensures) (prints.separations w.ensures c.before.separations.ensures)
+    let w = c.bad_walk-walk in
+    lists (subst (Shows c.rows.result) (sym (at_given _ _ _ _ c.if-walk-eq0.true)) c.rows.ensures) (prints.separations w.ensures c.separations.ensures)
 
 refused_requires : tie.Need-refused-requires
-refused_requires c κs = let w = c.before.before.before in (walk_sized w.before.requires w.bad-walk.ensures, c.before.if1.false)
+refused_requires c κs = let w = c in (walk_sized w.requires w.bad_walk-walk.ensures, c.if-walk-eq0.false)
 
-returns_2 : tie.Need-returns-2
+returns_2 : tie.Need-returns
 returns_2 c =
-    let w = c.before.before.before.before.bad-walk.ensures in
-    lists (c.refused.ensures _) (prints.separations w (no_table w c.before.before.if1.false))
+    let w = c.bad_walk-walk.ensures in
+    lists (c.refused.ensures _) (prints.separations w (no_table w c.if-walk-eq0.false))
 
 pub separations_spec : {M : Type 1} → statement M
 separations_spec =

@@ -16,55 +16,55 @@ use borrow.Author.Rules.{rules}
 use Rattle.command_lines.proofs.services.start_lines.Statement.{statement}
 use Rattle.command_lines.proofs.services.start_lines.Tie as tie
 
-abbrev invariant_loop : tie.invariant_loop
+abbrev invariant_loop : tie.invariant-loop-i
 invariant_loop ops interval starts ls₀ i₀ ls i = (i ≤ ops) × Shows ls (answer_line 0 ∷ interval_line interval ∷ each i (λ k. start_line (vec starts k)))
 
-abbrev decreases_loop : tie.decreases_loop
+abbrev decreases_loop : tie.decreases-loop-i
 decreases_loop ops interval starts ls₀ i₀ ls i = ops - i
 
-headed_requires : tie.Need-headed-requires invariant_loop decreases_loop
+headed_requires : tie.Need-headed-ls-requires invariant_loop decreases_loop
 headed_requires c κs = (omega arith, c.requires.1)
 
-loop_holds : tie.Need-loop-init invariant_loop decreases_loop
+loop_holds : tie.Need-loop-i-init invariant_loop decreases_loop
 unfolding each
-loop_holds c = (omega arith, c.headed.ensures)
+loop_holds c = (omega arith, c.headed-ls.ensures)
 
-mul_count_line : tie.Need-overflow-mul-count-line invariant_loop decreases_loop
-mul_count_line c = let h = c.before.before.before.requires.0 in omega arith
+mul_count_line : tie.Need-offset_bounds-starts-i invariant_loop decreases_loop
+mul_count_line c = let h = c.requires.0 in omega arith
 
-array_read_count_line : tie.Need-array-read-count-line invariant_loop decreases_loop
-array_read_count_line c = let h = c.before.before.before.requires.0 in omega arith
+array_read_count_line : tie.Need-bounds-starts-i invariant_loop decreases_loop
+array_read_count_line c = let h = c.requires.0 in omega arith
 
-count_line_requires : tie.Need-count-line-requires invariant_loop decreases_loop
+count_line_requires : tie.Need-count_line-requires invariant_loop decreases_loop
 count_line_requires c κs = search rules
 
-with_requires : tie.Need-with-requires invariant_loop decreases_loop
+with_requires : tie.Need-with-ls-requires invariant_loop decreases_loop
 with_requires c κs = search rules
 
-add_i : tie.Need-overflow-add-i invariant_loop decreases_loop
-add_i c = let h = c.before.before.before.before.before.requires.0 in omega arith
+add_i : tie.Need-overflow_step-i invariant_loop decreases_loop
+add_i c = let h = c.requires.0 in omega arith
 
-loop_less : tie.Need-loop-smaller invariant_loop decreases_loop
+loop_less : tie.Need-loop-i-smaller invariant_loop decreases_loop
 loop_less c = omega arith
 
-loop_again : tie.Need-loop-preserved invariant_loop decreases_loop
+loop_again : tie.Need-loop-i-preserved invariant_loop decreases_loop
 unfolding key_of
 loop_again c =
-    let l = c.before.count-line in
-    let t = c.before.before.before.loop in
-    let s = c.before.before.before.before.before in
+    let l = c.count_line in
+    let t = c.loop-i in
+    let s = c in
     let h = s.requires.0 in
     let w : length l.result.values ≡ most_values = search rules in (
       omega arith,
-      each_added (λ k. start_line (vec s.args.t3 k)) t.invariant.1 (omega (arith, c.before.before.loop-test.true)) l.result w
-          (one 14 (vec s.args.t3 t.i) l.result (s.requires.2 t.i) l.ensures) c.with.ensures,
+      each_added (λ k. start_line (vec s.args.starts k)) t.invariant.1 (omega (arith, c.loop-i-test.true)) l.result w
+          (one 14 (vec s.args.starts t.i) l.result (s.requires.2 t.i) l.ensures) c.with-ls.ensures,
     )
 
 returns : tie.Need-returns invariant_loop decreases_loop
 returns c =
-    let l = c.before.loop in
-    let a = c.before.before.before.args in
-    subst (λ (n : ℕ). Shows l.ls (answer_line 0 ∷ interval_line a.interval ∷ each n (λ k. start_line (vec a.t3 k)))) (omega (arith, l.invariant.0, c.loop-test.false)) l.invariant.1
+    let l = c.loop-i in
+    let a = c.args in
+    subst (λ (n : ℕ). Shows l.ls (answer_line 0 ∷ interval_line a.interval ∷ each n (λ k. start_line (vec a.starts k)))) (omega (arith, l.invariant.0, c.loop-i-test.false)) l.invariant.1
 
 pub start_lines_spec : {M : Type 1} → statement M
 start_lines_spec =

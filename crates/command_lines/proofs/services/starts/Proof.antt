@@ -12,28 +12,28 @@ use borrow.Author.Rules.{rules}
 use Rattle.command_lines.proofs.services.starts.Statement.{statement}
 use Rattle.command_lines.proofs.services.starts.Tie as tie
 
-earliest_starts_requires : tie.Need-earliest-starts-requires
+earliest_starts_requires : tie.Need-earliest_starts-found-requires
 earliest_starts_requires c κs = search rules
 
-start_lines_requires : tie.Need-start-lines-requires
+start_lines_requires : tie.Need-start_lines-requires
 start_lines_requires c κs =
-    let e = c.before.before.before in
-    let p = e.earliest-starts.ensures in
-    let ok = e.before.requires in
-    (ops_most ok, starts_inside ok p c.before.if1.true, λ i. let h = starts_most p i in omega arith)
+    let e = c in
+    let p = e.earliest_starts-found.ensures in
+    let ok = e.requires in
+    (ops_most ok, starts_inside ok p c.if-found-eq0.true, λ i. let h = starts_most p i in omega arith)
 
-returns : tie.Need-returns
+returns : tie.Need-returns-then-found-eq0
 returns c =
-    let e = c.before.before.before.before in
-    lists (subst (Shows c.start-lines.result) (sym (at_given _ _ _ _ c.before.before.if1.true)) c.start-lines.ensures) (prints.starts e.earliest-starts.ensures)
+    let e = c in
+    lists (subst (Shows c.start_lines.result) (sym (at_given _ _ _ _ c.if-found-eq0.true)) c.start_lines.ensures) (prints.starts e.earliest_starts-found.ensures)
 
 refused_requires : tie.Need-refused-requires
 refused_requires c κs =
-    let e = c.before.before.before in
-    (starts_sized e.before.requires e.earliest-starts.ensures, c.before.if1.false)
+    let e = c in
+    (starts_sized e.requires e.earliest_starts-found.ensures, c.if-found-eq0.false)
 
-returns_2 : tie.Need-returns-2
-returns_2 c = lists (c.refused.ensures _) (prints.starts c.before.before.before.before.earliest-starts.ensures)
+returns_2 : tie.Need-returns
+returns_2 c = lists (c.refused.ensures _) (prints.starts c.earliest_starts-found.ensures)
 
 pub starts_spec : {M : Type 1} → statement M
 starts_spec =
