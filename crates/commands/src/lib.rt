@@ -1,5 +1,7 @@
 // What each command prints for the bytes of a sheet: the lines of a service's answer, or a page, at the front of a lent
 // buffer. `words` says what is asked for; the program `ask` prints these bytes.
+#![tactic(auto)]
+
 ghost use Rattle.std.specs.Prelude.{◌≤◌};
 ghost use Rattle.text.specs.Sizes.{greatest_number};
 ghost use Rattle.sheet.specs.Sheet.{InRange, Arrays};

@@ -20,62 +20,62 @@ use borrow.Author.Rules.{rules}
 use Rattle.commands.proofs.answer.Statement.{statement}
 use Rattle.commands.proofs.answer.Tie as tie
 
-read_requires : tie.Need-read-requires
+read_requires : tie.Need-read-read-requires
 read_requires c κs = search rules
 
-line_at_fault_requires : tie.Need-line-at-fault-requires
+line_at_fault_requires : tie.Need-line_at_fault-requires
 line_at_fault_requires c κs = search rules
 
-refusal_lines_requires : tie.Need-refusal-lines-requires
+refusal_lines_requires : tie.Need-refusal_lines-requires
 refusal_lines_requires c κs =
-    let r = c.before.before.before in
-    let bs = r.before.before.before.args.bytes.now in
-    let e = ap (λ (x : ReadAnswer). x.answer) r.read.ensures in
+    let r = c in
+    let bs = r.args.bytes.now in
+    let e = ap (λ (x : ReadAnswer). x.answer) r.read-read.ensures in
     let h = read_small bs in
     let f = fault_small bs in
-    let g = c.line-at-fault.ensures in
+    let g = c.line_at_fault.ensures in
     (omega arith, omega arith)
 
 put_requires : tie.Need-put-requires
 put_requires c κs = search rules
 
-same_length : tie.Need-same-length
+same_length : tie.Need-shape_of-out-then-refusal-ne0
 same_length c = search rules
 
-returns : tie.Need-returns
+returns : tie.Need-returns-then-refusal-ne0
 returns c =
-    let l = c.before.before.before in
-    let f = l.before.line-at-fault.ensures in
-    let i = l.before.before.before in
-    let r = i.before.read in
-    let s = i.before.before.before.before in
+    let l = c in
+    let f = l.line_at_fault.ensures in
+    let i = l in
+    let r = i.read-read in
+    let s = i in
     let bs = s.args.bytes.now in
     let e : r.result.answer ≡ (read_of bs).answer = ap (λ (x : ReadAnswer). x.answer) r.ensures in
-    let w = c.before.before.put.ensures in
-    put (lists l.refusal-lines.ensures
-    (subst (λ (n : ℕ). Prints bs s.args.command (lines_text (refusal_lines s.args.command n l.before.line-at-fault.result))) (sym e)
-    (subst (λ (k : ℕ). Prints bs s.args.command (lines_text (refusal_lines s.args.command (read_of bs).answer k))) (sym f) (refused (λ z. i.if1.true (e ∙ z)))))) w.0 w.1
+    let w = c.put.ensures in
+    put (lists l.refusal_lines.ensures
+    (subst (λ (n : ℕ). Prints bs s.args.command (lines_text (refusal_lines s.args.command n l.line_at_fault.result))) (sym e)
+    (subst (λ (k : ℕ). Prints bs s.args.command (lines_text (refusal_lines s.args.command (read_of bs).answer k))) (sym f) (refused (λ z. i.if-refusal-ne0.true (e ∙ z)))))) w.0 w.1
 
 serve_requires : tie.Need-serve-requires
 serve_requires c κs =
-    let i = c.before.before in
-    let r = i.before.read in
-    let bs = i.before.before.before.before.args.bytes.now in
+    let i = c in
+    let r = i.read-read in
+    let bs = i.args.bytes.now in
     let e = ap (λ (x : ReadAnswer). x.answer) r.ensures in
-    let a = only_text bs (sym e ∙ i.if1.false) in
+    let a = only_text bs (sym e ∙ i.if-refusal-ne0.false) in
     subst (λ (s : Sheet). InRange s × Arrays s) (sym (ap (λ (x : ReadAnswer). x.sheet) (r.ensures ∙ a.result))) (a.in_range, a.arrays)
 
-same_length_2 : tie.Need-same-length-2
+same_length_2 : tie.Need-shape_of-out
 same_length_2 c = search rules
 
-returns_2 : tie.Need-returns-2
+returns_2 : tie.Need-returns
 returns_2 c =
-    let i = c.before.before.before.before.before in
-    let r = i.before.read in
-    let s = i.before.before.before.before in
+    let i = c in
+    let r = i.read-read in
+    let s = i in
     let e = ap (λ (x : ReadAnswer). x.answer) r.ensures in
     let g = ap (λ (x : ReadAnswer). x.sheet) r.ensures in
-    weaken (λ t p. read (sym e ∙ i.if1.false) (subst (λ (x : Sheet). Serves x s.args.command t) g p)) c.before.before.serve.ensures
+    weaken (λ t p. read (sym e ∙ i.if-refusal-ne0.false) (subst (λ (x : Sheet). Serves x s.args.command t) g p)) c.serve.ensures
 
 pub answer_spec : {M : Type 1} → statement M
 answer_spec =

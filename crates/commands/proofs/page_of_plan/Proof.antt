@@ -16,43 +16,43 @@ use borrow.Author.Rules.{rules}
 use Rattle.commands.proofs.page_of_plan.Statement.{statement}
 use Rattle.commands.proofs.page_of_plan.Tie as tie
 
-read_requires : tie.Need-read-requires
+read_requires : tie.Need-read-read-requires
 read_requires c κs = search rules
 
 alone_requires : tie.Need-alone-requires
 alone_requires c κs =
-    let e = ap (λ (x : ReadAnswer). x.answer) c.before.before.read.ensures in
-    let h = read_small c.before.before.before.before.before.before.before.args.bytes.now in
+    let e = ap (λ (x : ReadAnswer). x.answer) c.read-read.ensures in
+    let h = read_small c.args.bytes.now in
     omega arith
 
 put_requires : tie.Need-put-requires
 put_requires c κs = search rules
 
-same_length : tie.Need-same-length
+same_length : tie.Need-shape_of-out-then-refusal-ne0
 same_length c = search rules
 
-returns : tie.Need-returns
+returns : tie.Need-returns-then-refusal-ne0
 returns c =
-    let e = ap (λ (x : ReadAnswer). x.answer) c.before.before.before.before.before.before.read.ensures in
-    let w = c.before.before.put.ensures in
-    put (lists c.before.before.before.alone.ensures (at_no (λ z. c.before.before.before.before.before.if1.true (e ∙ z)) (ap refusal_text e))) w.0 w.1
+    let e = ap (λ (x : ReadAnswer). x.answer) c.read-read.ensures in
+    let w = c.put.ensures in
+    put (lists c.alone.ensures (at_no (λ z. c.if-refusal-ne0.true (e ∙ z)) (ap refusal_text e))) w.0 w.1
 
 given_requires : tie.Need-given-requires
 given_requires c κs =
-    let r = c.before.before.before.read in
+    let r = c.read-read in
     let e = ap (λ (x : ReadAnswer). x.answer) r.ensures in
-    subst InRange (sym (ap (λ (x : ReadAnswer). x.sheet) r.ensures)) (read_in_range c.before.before.before.before.before.before.before.before.args.bytes.now (sym e ∙ c.before.before.if1.false))
+    subst InRange (sym (ap (λ (x : ReadAnswer). x.sheet) r.ensures)) (read_in_range c.args.bytes.now (sym e ∙ c.if-refusal-ne0.false))
 
-same_length_2 : tie.Need-same-length-2
+same_length_2 : tie.Need-shape_of-out
 same_length_2 c = search rules
 
-returns_2 : tie.Need-returns-2
+returns_2 : tie.Need-returns
 returns_2 c =
-    let r = c.before.before.before.before.before.before.read in
-    let a = c.before.before.before.before.before.before.before.before.before.before.before.args in
+    let r = c.read-read in
+    let a = c.args in
     let e = ap (λ (x : ReadAnswer). x.answer) r.ensures in
     let g = ap (λ (x : ReadAnswer). x.sheet) r.ensures in
-    weaken (λ t p. at_yes (sym e ∙ c.before.before.before.before.before.if1.false) (subst (λ (x : Sheet). ServesPage x a.interval a.starts.now a.instances.now t) g p)) c.before.before.given.ensures
+    weaken (λ t p. at_yes (sym e ∙ c.if-refusal-ne0.false) (subst (λ (x : Sheet). ServesPage x a.interval a.starts.now a.instances.now t) g p)) c.given.ensures
 
 pub page_of_plan_spec : {M : Type 1} → statement M
 page_of_plan_spec =

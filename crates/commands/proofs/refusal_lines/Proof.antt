@@ -15,32 +15,32 @@ use borrow.Author.Rules.{rules}
 use Rattle.commands.proofs.refusal_lines.Statement.{statement}
 use Rattle.commands.proofs.refusal_lines.Tie as tie
 
-alone_requires : tie.Need-alone-requires
+alone_requires : tie.Need-alone-alone-requires
 alone_requires c κs = search rules
 
-enum_told : tie.Need-enum-told
+enum_told : tie.Need-enum_told-1
 enum_told c = search rules
 
-count_line_requires : tie.Need-count-line-requires
+count_line_requires : tie.Need-count_line-requires
 count_line_requires c κs = search rules
 
 with_requires : tie.Need-with-requires
 with_requires c κs = search rules
 
-returns : tie.Need-returns
+returns : tie.Need-returns-in-Check
 unfolding key_of refusal_lines
 returns c =
-    let l = c.before.count-line in
-    let s = c.before.before.before.before.before in
+    let l = c.count_line in
+    let s = c in
     let w : length l.result.values ≡ most_values = search rules in
-    subst (λ (k : Command). Shows c.with.result (refusal_lines k s.args.refusal s.args.line)) (sym c.before.before.enum_told.given.1)
-    (added c.before.before.before.before.alone.ensures (omega arith) l.result (count_line line_key s.args.line) w
+    subst (λ (k : Command). Shows c.with.result (refusal_lines k s.args.refusal s.args.line)) (sym c.in-Check.is)
+    (added c.alone-alone.ensures (omega arith) l.result (count_line line_key s.args.line) w
     (one 17 s.args.line l.result s.requires.1 l.ensures) c.with.ensures)
 
-returns_2 : tie.Need-returns-2
+returns_2 : tie.Need-returns-in_default
 returns_2 c =
-    let a = c.before.before.args in
-    subst (Shows c.before.alone.result) (sym (not_check a.command a.refusal a.line c.match.keys2)) c.before.alone.ensures
+    let a = c.args in
+    subst (Shows c.alone-alone.result) (sym (not_check a.command a.refusal a.line c.in_default.in_default-own.keys2)) c.alone-alone.ensures
 
 pub refusal_lines_spec : {M : Type 1} → statement M
 refusal_lines_spec =

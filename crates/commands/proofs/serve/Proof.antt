@@ -18,7 +18,7 @@ use Rattle.commands.proofs.serve.Tie as tie
 of : {s : Sheet} {k c : Command} {old new : List ℕ} {r : Written} → c ≡ k → Put (Serves s k) old r new → Put (Serves s c) old r new
 of {s} {old = old} {new} {r} e p = subst (λ (x : Command). Put (Serves s x) old r new) (sym e) p
 
-enum_told : tie.Need-enum-told
+enum_told : tie.Need-enum_told-1
 enum_told c = search rules
 
 bounds_requires : tie.Need-bounds-requires
@@ -27,129 +27,129 @@ bounds_requires c κs = search rules
 put_requires : tie.Need-put-requires
 put_requires c κs = search rules
 
-enum_known_command : tie.Need-enum-known-command
+enum_known_command : tie.Need-enum_known-command
 enum_known_command c = search rules
 
 starts_requires : tie.Need-starts-requires
 starts_requires c κs = search rules
 
-put_requires_2 : tie.Need-put-requires-2
+put_requires_2 : tie.Need-put-requires-in-Starts
 put_requires_2 c κs = search rules
 
-enum_known_command_2 : tie.Need-enum-known-command-2
+enum_known_command_2 : tie.Need-enum_known-command-in-Separations-1
 enum_known_command_2 c = search rules
 
 separations_requires : tie.Need-separations-requires
 separations_requires c κs = search rules
 
-put_requires_3 : tie.Need-put-requires-3
+put_requires_3 : tie.Need-put-requires-in-Separations
 put_requires_3 c κs = search rules
 
-enum_known_command_3 : tie.Need-enum-known-command-3
+enum_known_command_3 : tie.Need-enum_known-command-in-Plan-1
 enum_known_command_3 c = search rules
 
 plan_requires : tie.Need-plan-requires
 plan_requires c κs = search rules
 
-enum_known_command_4 : tie.Need-enum-known-command-4
+enum_known_command_4 : tie.Need-enum_known-command-in-Page-1
 enum_known_command_4 c = search rules
 
 first_requires : tie.Need-first-requires
 first_requires c κs = search rules
 
-enum_known_command_5 : tie.Need-enum-known-command-5
+enum_known_command_5 : tie.Need-enum_known-command-in-Order-1
 enum_known_command_5 c = search rules
 
 order_requires : tie.Need-order-requires
 order_requires c κs = search rules
 
-put_requires_4 : tie.Need-put-requires-4
+put_requires_4 : tie.Need-put-requires-in-Order
 put_requires_4 c κs = search rules
 
-enum_told_2 : tie.Need-enum-told-2
+enum_told_2 : tie.Need-enum_told-in-Check
 enum_told_2 c = search rules
 
 alone_requires : tie.Need-alone-requires
 alone_requires c κs = search rules
 
-put_requires_5 : tie.Need-put-requires-5
+put_requires_5 : tie.Need-put-requires-in-Check
 put_requires_5 c κs = search rules
 
-enum_told_3 : tie.Need-enum-told-3
+enum_told_3 : tie.Need-enum_told-in-Write
 enum_told_3 c = search rules
 
 write_requires : tie.Need-write-requires
 write_requires c κs = search rules
 
-same_length : tie.Need-same-length
+same_length : tie.Need-shape_of-out-in-Bounds
 same_length c = search rules
 
-returns : tie.Need-returns
+returns : tie.Need-returns-in-Bounds
 returns c =
-    let b = c.before.before.before in
-    let w = c.before.before.put.ensures in
-    of b.before.before.enum_told.given.1 (put b.bounds.ensures w.0 w.1)
+    let b = c in
+    let w = c.put.ensures in
+    of b.in-Bounds.is (put b.bounds.ensures w.0 w.1)
 
-same_length_2 : tie.Need-same-length-2
+same_length_2 : tie.Need-shape_of-out-in-Starts
 same_length_2 c = search rules
 
-returns_2 : tie.Need-returns-2
+returns_2 : tie.Need-returns-in-Starts
 returns_2 c =
-    let b = c.before.before.before in
-    let w = c.before.before.put2.ensures in
-    of b.before.before.before.command.given.1 (put b.starts.ensures w.0 w.1)
+    let b = c in
+    let w = c.put-in-Starts.ensures in
+    of b.in-Starts.is (put b.starts.ensures w.0 w.1)
 
-same_length_3 : tie.Need-same-length-3
+same_length_3 : tie.Need-shape_of-out-in-Separations
 same_length_3 c = search rules
 
-returns_3 : tie.Need-returns-3
+returns_3 : tie.Need-returns-in-Separations
 returns_3 c =
-    let b = c.before.before.before in
-    let w = c.before.before.put3.ensures in
-    of b.before.before.before.command2.given.1 (put b.separations.ensures w.0 w.1)
+    let b = c in
+    let w = c.put-in-Separations.ensures in
+    of b.in-Separations.is (put b.separations.ensures w.0 w.1)
 
-same_length_4 : tie.Need-same-length-4
+same_length_4 : tie.Need-shape_of-out-in-Plan
 same_length_4 c = search rules
 
-returns_4 : tie.Need-returns-4
+returns_4 : tie.Need-returns-in-Plan
 returns_4 c =
-    let b = c.before.before in
-    of b.before.before.before.command3.given.1 b.plan.ensures
+    let b = c in
+    of b.in-Plan.is b.plan.ensures
 
-same_length_5 : tie.Need-same-length-5
+same_length_5 : tie.Need-shape_of-out-in-Page
 same_length_5 c = search rules
 
-returns_5 : tie.Need-returns-5
+returns_5 : tie.Need-returns-in-Page
 returns_5 c =
-    let b = c.before.before in
-    of b.before.before.before.command4.given.1 b.first.ensures
+    let b = c in
+    of b.in-Page.is b.first.ensures
 
-same_length_6 : tie.Need-same-length-6
+same_length_6 : tie.Need-shape_of-out-in-Order
 same_length_6 c = search rules
 
-returns_6 : tie.Need-returns-6
+returns_6 : tie.Need-returns-in-Order
 returns_6 c =
-    let b = c.before.before.before in
-    let w = c.before.before.put4.ensures in
-    of b.before.before.before.command5.given.1 (put b.order.ensures w.0 w.1)
+    let b = c in
+    let w = c.put-in-Order.ensures in
+    of b.in-Order.is (put b.order.ensures w.0 w.1)
 
-same_length_7 : tie.Need-same-length-7
+same_length_7 : tie.Need-shape_of-out-in-Check
 same_length_7 c = search rules
 
-returns_7 : tie.Need-returns-7
+returns_7 : tie.Need-returns-in-Check
 returns_7 c =
-    let b = c.before.before.before in
-    let w = c.before.before.put5.ensures in
-    of b.before.before.enum-told2.given.1 (put (lists b.alone.ensures check) w.0 w.1)
+    let b = c in
+    let w = c.put-in-Check.ensures in
+    of b.in-Check.is (put (lists b.alone.ensures check) w.0 w.1)
 
-same_length_8 : tie.Need-same-length-8
+same_length_8 : tie.Need-shape_of-out-in-Write
 same_length_8 c = search rules
 
-returns_8 : tie.Need-returns-8
+returns_8 : tie.Need-returns-in-Write
 returns_8 c =
-    let b = c.before.before in
-    let s = b.before.before.before.before.before in
-    of b.before.before.enum-told3.given.1 (write_put s.requires.0 (text_short s.args.sheet s.requires.1 s.requires.0) b.write.ensures)
+    let b = c in
+    let s = b in
+    of b.in-Write.is (write_put s.requires.0 (text_short s.args.sheet s.requires.1 s.requires.0) b.write.ensures)
 
 pub serve_spec : {M : Type 1} → statement M
 serve_spec =

@@ -15,36 +15,36 @@ use borrow.Author.Rules.{rules}
 use Rattle.commands.proofs.orders.order.Statement.{statement}
 use Rattle.commands.proofs.orders.order.Tie as tie
 
-slot_order_requires : tie.Need-slot-order-requires
+slot_order_requires : tie.Need-slot_order-found-requires
 slot_order_requires c κs = search rules
 
-alone_requires : tie.Need-alone-requires
-alone_requires c κs = (order_sized c.before.before.before.requires c.before.before.slot-order.ensures).few
+alone_requires : tie.Need-alone-answered-requires
+alone_requires c κs = (order_sized c.requires c.slot_order-found.ensures).few
 
-count_line_requires : tie.Need-count-line-requires
+count_line_requires : tie.Need-count_line-requires
 count_line_requires c κs = search rules
 
 with_requires : tie.Need-with-requires
 with_requires c κs = search rules
 
-returns : tie.Need-returns
+returns : tie.Need-returns-then-found-eq0
 unfolding key_of
 returns c =
-    let a = c.before.before.before.before.before.slot-order in
-    let l = c.before.count-line in
+    let a = c.slot_order-found in
+    let l = c.count_line in
     let w : length l.result.values ≡ most_values = search rules in
-    lists (subst (Shows c.with.result) (sym (order_given a.result c.before.before.before.if1.true))
-    (added c.before.before.alone.ensures (omega arith) l.result (count_line order_key a.result.order) w
-    (one 16 a.result.order l.result (order_few c.before.before.before.before.before.before.requires a.ensures) l.ensures) c.with.ensures)) (prints.order a.ensures)
+    lists (subst (Shows c.with.result) (sym (order_given a.result c.if-found-eq0.true))
+    (added c.alone-answered.ensures (omega arith) l.result (count_line order_key a.result.order) w
+    (one 16 a.result.order l.result (order_few c.requires a.ensures) l.ensures) c.with.ensures)) (prints.order a.ensures)
 
 denied_requires : tie.Need-denied-requires
 denied_requires c κs =
-    let z = order_sized c.before.before.before.before.requires c.before.before.before.slot-order.ensures in (z.few, z.edges)
+    let z = order_sized c.requires c.slot_order-found.ensures in (z.few, z.edges)
 
-returns_2 : tie.Need-returns-2
+returns_2 : tie.Need-returns
 returns_2 c =
-    let a = c.before.before.before.before.slot-order in
-    lists (subst (Shows c.denied.result) (sym (order_denied a.result c.before.before.if1.false)) c.denied.ensures) (prints.order a.ensures)
+    let a = c.slot_order-found in
+    lists (subst (Shows c.denied.result) (sym (order_denied a.result c.if-found-eq0.false)) c.denied.ensures) (prints.order a.ensures)
 
 pub order_spec : {M : Type 1} → statement M
 order_spec =
