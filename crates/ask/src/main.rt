@@ -178,9 +178,14 @@ fn print_judged(rt: &(impl Input + Print + Eprint), given: &[u8]) -> io::Result<
     told::judged(rt, given, found.answer, found.line)
 }
 
+// Room for another supplier's answer: in a function of its own, so that no proof looks into so many bytes.
+fn answer_room() -> [u8; ANSWER_INPUT] {
+    [0; ANSWER_INPUT]
+}
+
 // Reads another supplier's answer, and has it judged.
 fn print_judged_answer(rt: &(impl Files + Input + Print + Eprint)) -> io::Result<()> {
-    let mut given = [0u8; ANSWER_INPUT];
+    let mut given = answer_room();
     let n = read_second(rt, &mut given)?;
     print_judged(rt, &given[..n])
 }
