@@ -14,16 +14,13 @@ use Rattle.scan.specs.PlainLaws.{plain_over, plain_none, plain_cast, plain_some}
 use Rattle.scan.proofs.read_plain.Statement.{statement}
 use Rattle.scan.proofs.read_plain.Tie as tie
 
-returns : tie.Need-returns-then-count-gt-MOST_PLAIN
-returns c = plain_over _ c.args.at _ _ c.if-count-gt-MOST_PLAIN.true
-
 read_line_requires : tie.Need-read_line-line-requires
 read_line_requires c κs = search rules
 
 returns_2 : tie.Need-returns-then-not-line
 returns_2 c =
     let r = c in
-    plain_none _ r.args.at _ _ r.if-count-gt-MOST_PLAIN.false _ r.read_line-line.ensures.0
+    plain_none _ r.args.at _ _ (omega arith) _ r.read_line-line.ensures.0
     r.read_line-line.ensures.1 c.if-not-line.true
 
 -- the cast of a number
@@ -32,7 +29,7 @@ cast : (e : tie.Else-not-line) (i : ℕ) → i < most_numbers
     × Fits w64 (nat_abs (bits e.read_line-line.result i))
 cast e =
     let r = e in
-    plain_cast _ r.args.at _ _ r.if-count-gt-MOST_PLAIN.false _ r.read_line-line.ensures.0
+    plain_cast _ r.args.at _ _ (omega arith) _ r.read_line-line.ensures.0
     r.read_line-line.ensures.1 e.if-not-line.false
 
 array_copy_out_t11 : tie.Need-bounds-values-0
@@ -57,14 +54,14 @@ returns_3 : tie.Need-returns
 returns_3 c =
     let e = c in
     let r = e in
-    plain_some _ r.args.at _ _ r.if-count-gt-MOST_PLAIN.false _ r.read_line-line.ensures.0
+    plain_some _ r.args.at _ _ (omega arith) _ r.read_line-line.ensures.0
     r.read_line-line.ensures.1 e.if-not-line.false
 
 pub read_plain_spec : {M : Type 1} → statement M
 read_plain_spec =
     tie.close
     (tie.spec
-    returns
+    (λ c. plain_over _ c.args.at _ _ (omega arith))
     read_line_requires
     returns_2
     array_copy_out_t11

