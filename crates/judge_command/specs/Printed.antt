@@ -8,7 +8,7 @@ use Rattle.text.specs.Keys.{answer_key}
 use Rattle.text.specs.Sizes.{three_digits, greatest_number}
 use Rattle.text.specs.Text.{line_text, buffer_of}
 use Rattle.text.specs.Line.{text_of, written_of}
-use Rattle.text.specs.Answers.{answer_line, refusal_text}
+use Rattle.text.specs.Answers.{answer_line}
 use Rattle.text.specs.Bounds.{answer_most_lem}
 use Rattle.text.specs.Filling.{one_line}
 use Rattle.text.specs.Joined.{one_number}

@@ -1,5 +1,7 @@
 // All that the command `judge` prints for the bytes of a sheet and of another supplier's answer, at the front of a lent
 // buffer, and what can be told beside it. The program `ask` prints these bytes.
+#![tactic(auto)]
+
 ghost use Rattle.judge_command.specs.Prints.{Examined, Answered};
 
 use text::Written;
@@ -9,7 +11,7 @@ pub const ROOM: usize = 11;
 
 // What is answered, and the line of the other supplier's answer that is at fault: 0 where it passed or the sheet is
 // refused.
-#[derive(Drop)]
+#[derive(Clone, Copy)]
 pub struct Finding {
     pub answer: usize,
     pub line: usize,

@@ -9,10 +9,10 @@ use borrow.Author.Rules.{rules}
 use Rattle.judge_command.proofs.answer.Statement.{statement}
 use Rattle.judge_command.proofs.answer.Tie as tie
 
-examine_requires : tie.Need-examine-requires
+examine_requires : tie.Need-examine-found-requires
 examine_requires c κs = search rules
 
-count_line_requires : tie.Need-count-line-requires
+count_line_requires : tie.Need-count_line-line-requires
 count_line_requires c κs = search rules
 
 none_requires : tie.Need-none-requires
@@ -24,20 +24,20 @@ with_requires c κs = search rules
 put_requires : tie.Need-put-requires
 put_requires c κs = search rules
 
-same_length : tie.Need-same-length
+same_length : tie.Need-shape_of-out
 same_length c = search rules
 
 returns : tie.Need-returns
 unfolding key_of
 returns c =
-    let p = c.before.before in
-    let w = p.before in
-    let n = w.before in
-    let l = n.before.before in
-    let x = l.before in
-    let s = x.before.before.before.before in
-    printed s.args.bytes.now s.args.given.now x.examine.ensures.answer l.count-line.result l.count-line.ensures
-    (w.with.ensures ∙ ap (λ (ls : Lines). with_line ls l.count-line.result) n.none.ensures) p.put.ensures.0 p.put.ensures.1
+    let p = c in
+    let w = p in
+    let n = w in
+    let l = n in
+    let x = l in
+    let s = x in
+    printed s.args.bytes.now s.args.given.now x.examine-found.ensures.answer l.count_line-line.result l.count_line-line.ensures
+    (w.with.ensures ∙ ap (λ (ls : Lines). with_line ls l.count_line-line.result) n.none.ensures) p.put.ensures.0 p.put.ensures.1
 
 pub answer_spec : {M : Type 1} → statement M
 answer_spec =

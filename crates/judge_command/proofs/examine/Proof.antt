@@ -12,36 +12,36 @@ use Rattle.judge_command.proofs.examine.Statement.{statement}
 use Rattle.judge_command.proofs.examine.Tie as tie
 
 -- what was read
-number : (c : tie.After-read) → c.read.result.answer ≡ (read_of c.before.before.before.args.bytes.now).answer
-number c = ap (λ (x : ReadAnswer). x.answer) c.read.ensures
+number : (c : tie.After-read-read) → c.read-read.result.answer ≡ (read_of c.args.bytes.now).answer
+number c = ap (λ (x : ReadAnswer). x.answer) c.read-read.ensures
 
-sheet : (c : tie.After-read) → c.read.result.sheet ≡ (read_of c.before.before.before.args.bytes.now).sheet
-sheet c = ap (λ (x : ReadAnswer). x.sheet) c.read.ensures
+sheet : (c : tie.After-read-read) → c.read-read.result.sheet ≡ (read_of c.args.bytes.now).sheet
+sheet c = ap (λ (x : ReadAnswer). x.sheet) c.read-read.ensures
 
-read_requires : tie.Need-read-requires
+read_requires : tie.Need-read-read-requires
 read_requires c κs = search rules
 
-returns : tie.Need-returns
+returns : tie.Need-returns-then-refusal-ne0
 returns c =
     let e = number c.before in
-    record { answer = at_no (λ z. c.if1.true (e ∙ z)) e; line = at_no (λ z. c.if1.true (e ∙ z)) refl }
+    record { answer = at_no (λ z. c.if-refusal-ne0.true (e ∙ z)) e; line = at_no (λ z. c.if-refusal-ne0.true (e ∙ z)) refl }
 
-judge_requires : tie.Need-judge-requires
+judge_requires : tie.Need-judge-answer-requires
 judge_requires c κs = search rules
 
-line_at_fault_requires : tie.Need-line-at-fault-requires
+line_at_fault_requires : tie.Need-line_at_fault-line-requires
 line_at_fault_requires c κs = search rules
 
-returns_2 : tie.Need-returns-2
+returns_2 : tie.Need-returns
 returns_2 c =
-    let j = c.before in
-    let i = j.before.before in
-    let r = i.before in
-    let given = r.before.before.before.args.given.now in
-    let yes = sym (number r) ∙ i.if1.false in
+    let j = c in
+    let i = j in
+    let r = i.before.before.before.before in
+    let given = r.args.given.now in
+    let yes = sym (number r) ∙ i.if-refusal-ne0.false in
     record {
-      answer = at_yes yes (subst (λ (x : Sheet). JudgedAt x given j.judge.result) (sheet r) j.judge.ensures);
-      line = at_yes yes (subst (λ (x : Sheet). FaultAt x given c.line-at-fault.result) (sheet r) c.line-at-fault.ensures);
+      answer = at_yes yes (subst (λ (x : Sheet). JudgedAt x given j.judge-answer.result) (sheet r) j.judge-answer.ensures);
+      line = at_yes yes (subst (λ (x : Sheet). FaultAt x given c.line_at_fault-line.result) (sheet r) c.line_at_fault-line.ensures);
     }
 
 pub examine_spec : {M : Type 1} → statement M
