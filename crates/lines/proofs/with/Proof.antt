@@ -7,9 +7,6 @@ use borrow.Author.Rules.{rules}
 use Rattle.lines.proofs.with.Statement.{statement}
 use Rattle.lines.proofs.with.Tie as tie
 
-returns : tie.Need-returns-then-at-ge-MOST_LINES
-returns c = sym (with_full _ _ (omega arith))
-
 mul_lines : tie.Need-offset_bounds-lines-at
 mul_lines c = search rules
 
@@ -23,4 +20,4 @@ returns_2 : tie.Need-returns
 returns_2 c = sym (with_room _ _ (omega arith))
 
 pub with_spec : {M : Type 1} → statement M
-with_spec = tie.close (tie.spec returns mul_lines array_set_from_lines add_t6 returns_2)
+with_spec = tie.close (tie.spec (λ c. sym (with_full _ _ (omega arith))) mul_lines array_set_from_lines add_t6 returns_2)

@@ -27,11 +27,6 @@ add_no_lines c = search rules
 no_lines_requires : tie.Need-no_lines-requires invariant_loop decreases_loop
 no_lines_requires c κs = search rules
 
-returns : tie.Need-returns-then-i-ge-MOST_OPERATIONS invariant_loop decreases_loop
-returns c =
-    let l = c in
-    over l.loop-p.invariant l.loop-p-test.true (omega (arith, c.if-i-ge-MOST_OPERATIONS.true)) c.no_lines.ensures
-
 read_plain_requires : tie.Need-read_plain-line-requires invariant_loop decreases_loop
 read_plain_requires c κs = search rules
 
@@ -46,7 +41,7 @@ returns_2 c =
     let r = c in
     let e = r in
     let l = e in
-    stops l.loop-p.invariant l.loop-p-test.true e.if-i-ge-MOST_OPERATIONS.false _ r.read_plain-line.ensures
+    stops l.loop-p.invariant l.loop-p-test.true (omega arith) _ r.read_plain-line.ensures
     c.if-not-line.true c.no_lines-then-not-line.ensures
 
 mul_starts : tie.Need-offset_bounds-starts-i invariant_loop decreases_loop
@@ -72,7 +67,7 @@ loop_again c =
     let r = c in
     let e = r in
     let l = e in
-    turn l.loop-p.invariant l.loop-p-test.true e.if-i-ge-MOST_OPERATIONS.false _ r.read_plain-line.ensures c.if-not-line.false
+    turn l.loop-p.invariant l.loop-p-test.true (omega arith) _ r.read_plain-line.ensures c.if-not-line.false
 
 returns_3 : tie.Need-returns invariant_loop decreases_loop
 returns_3 c = done c.loop-p.invariant c.loop-p-test.false
@@ -86,7 +81,7 @@ read_places_spec =
     loop_holds
     add_no_lines
     no_lines_requires
-    returns
+    (λ c. let l = c in over l.loop-p.invariant l.loop-p-test.true (omega arith) c.no_lines.ensures)
     read_plain_requires
     add_no_lines_2
     no_lines_requires_2

@@ -10,11 +10,8 @@ use Rattle.report.proofs.plan_text.Tie as tie
 plan_at_requires : tie.Need-plan_at-a-requires
 plan_at_requires c κs = search rules
 
-returns : tie.Need-returns-then-a-ne0
-returns c = refusal c.plan_at-a.ensures (λ z. omega (arith, c.if-a-ne0.true))
-
 put_interval_requires : tie.Need-put_interval-written-requires
-put_interval_requires c κs = plan_small c.plan_at-a.ensures c.if-a-ne0.false
+put_interval_requires c κs = plan_small c.plan_at-a.ensures (omega arith)
 
 same_length : tie.Need-shape_of-out
 same_length c = search rules
@@ -23,8 +20,8 @@ returns_2 : tie.Need-returns
 returns_2 c =
     let w = c.put_interval-written.ensures in
     let e = c in
-    made e.plan_at-a.ensures e.if-a-ne0.false w.0 w.1
+    made e.plan_at-a.ensures (omega arith) w.0 w.1
 
 pub plan_text_spec : {M : Type 1} → statement M
 plan_text_spec =
-    tie.close (tie.spec plan_at_requires returns put_interval_requires same_length returns_2)
+    tie.close (tie.spec plan_at_requires (λ c. refusal c.plan_at-a.ensures (λ z. omega arith)) put_interval_requires same_length returns_2)

@@ -1,5 +1,5 @@
 -- `scan_number::classify` meets its contract: each arm's own test picks the case of `class_of`.
-use mathlib.Core.Path.{sym, ap}
+use mathlib.Core.Path.{◌≡◌, sym, ap}
 use native.Mathlib.Omega.{arith}
 use Rattle.scan_number.specs.Number.{class_of}
 use Rattle.scan_number.specs.Bytes.{digit_class, low_class, high_class}
@@ -14,10 +14,6 @@ returns_2 : tie.Need-returns-in-44
 unfolding class_of
 returns_2 c = sym (ap class_of c.in-44.is)
 
-returns_3 : tie.Need-returns-in-10
-unfolding class_of
-returns_3 c = sym (ap class_of c.in-10.is)
-
 returns_5 : tie.Need-returns-in_default
 returns_5 c =
     let n = c.in_default.in_default-own.rest in
@@ -27,4 +23,5 @@ returns_6 : tie.Need-returns-in_default-2
 returns_6 c = sym (high_class _ (omega arith))
 
 pub classify_spec : {M : Type 1} → statement M
-classify_spec = tie.close (tie.spec returns returns_2 returns_3 (λ c. sym (digit_class _ (omega arith) (omega arith))) returns_5 returns_6)
+unfolding class_of
+classify_spec = tie.close (tie.spec returns returns_2 (λ c. let e : c.args.b ≡ 10 = omega arith in sym (ap class_of e)) (λ c. sym (digit_class _ (omega arith) (omega arith))) returns_5 returns_6)

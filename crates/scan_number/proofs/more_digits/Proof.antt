@@ -32,14 +32,6 @@ classify_requires c κs = tt
 enum_known_d : tie.Need-enum_known-d invariant_loop decreases_loop
 enum_known_d c = c.in-Digit-1.keys1
 
-returns_2 : tie.Need-returns-then-v-gt-THREE_DIGITS invariant_loop decreases_loop
-unfolding seen within
-returns_2 c =
-    let d = c in
-    let k = d in
-    let l = k in
-    (sym (digit_full _ _ k.loop-i-test.true _ _ _ k.classify.ensures d.in-Digit.is c.if-v-gt-THREE_DIGITS.true) ∙ l.loop-i.invariant.2, tt)
-
 mul_v : tie.Need-overflow_mul-v invariant_loop decreases_loop
 mul_v c = omega arith
 
@@ -73,7 +65,7 @@ loop_again c =
     let l = k in (
       omega arith,
       omega (arith, byte_of _ (sym k.classify.ensures ∙ d.in-Digit.is)),
-      sym (digit_more _ _ k.loop-i-test.true _ _ _ k.classify.ensures d.in-Digit.is (omega arith) c.if-v-gt-THREE_DIGITS.false) ∙ l.loop-i.invariant.2,
+      sym (digit_more _ _ k.loop-i-test.true _ _ _ k.classify.ensures d.in-Digit.is (λ z. omega arith) (omega arith)) ∙ l.loop-i.invariant.2,
     )
 
 returns_4 : tie.Need-returns invariant_loop decreases_loop
@@ -91,8 +83,8 @@ more_digits_spec =
     shared_slice_read_b
     classify_requires
     enum_known_d
-    (λ c. (sym (digit_zero _ _ c.loop-i-test.true _ _ _ c.classify.ensures c.in-Digit.is (omega arith)) ∙ c.loop-i.invariant.2, tt))
-    returns_2
+    (λ c. let d = c in let k = d in let l = k in (sym (digit_zero _ _ k.loop-i-test.true _ _ _ k.classify.ensures d.in-Digit.is (omega arith)) ∙ l.loop-i.invariant.2, tt))
+    (λ c. let d = c in let k = d in let l = k in (sym (digit_full _ _ k.loop-i-test.true _ _ _ k.classify.ensures d.in-Digit.is (omega arith)) ∙ l.loop-i.invariant.2, tt))
     mul_v
     cast_v
     add_v

@@ -1,7 +1,6 @@
 -- `scan_number::read_signed` meets its contract: what `read_number` finds picks the clause of `signed_number`.
 -- Assumes nothing.
 use mir.Syntax.{w32}
-use native.Mathlib.Omega.{arith}
 use mathlib.Core.Path.{sym, ◌∙◌}
 use mathlib.Core.Logic.{⊎_elim, inl, inr}
 use lib.ListN.{drop}
@@ -10,6 +9,7 @@ use Rattle.scan_number.proofs.Digits.{seen_value, seen_malformed, within_value}
 use Rattle.scan_number.specs.Number.{seen_whole, within_whole}
 use Rattle.scan_number.proofs.Signs.{signed_got, signed_zero, signed_none, mag_signed}
 use borrow.Author.Rules.{rules}
+use native.Mathlib.Omega.{arith}
 use Rattle.scan_number.proofs.read_signed.Statement.{statement}
 use Rattle.scan_number.proofs.read_signed.Tie as tie
 
@@ -37,7 +37,7 @@ returns_2 c =
     let w = within_value _ r.read_number.ensures.1 g.in-Value.is in
     let z = to_z-of_z {w = w32} {z = c.with_sign.result} (record { sfits = c.with_sign.type_inv }) in
     let e = z ∙ c.with_sign.ensures in (
-      rw e (sym (signed_got (drop a.at a.s.now) _ _ (seen_value _ r.read_number.ensures.0 g.in-Value.is) a.negative (⊎_elim (λ w. inr (omega arith)) (λ w. inl w.if-negative.false) c.else-negative.branch-raw))),
+      rw e (sym (signed_got (drop a.at a.s.now) _ _ (seen_value _ r.read_number.ensures.0 g.in-Value.is) a.negative (⊎_elim (λ w. inr (λ z. omega arith)) (λ w. inl w.if-negative.false) c.else-negative.branch-raw))),
       (w.0, rw (e, mag_signed a.negative g.in-Value.n) w.1),
     )
 
@@ -51,4 +51,4 @@ pub read_signed_spec : {M : Type 1} → statement M
 unfolding seen_whole within_whole
 read_signed_spec =
     tie.close
-    (tie.spec read_number_requires enum_known_n (λ c. (sym (signed_zero _ _ _ (seen_value _ c.read_number.ensures.0 c.in-Value.is) _ c.if-negative.true (omega arith)), tt)) with_sign_requires enum_told returns_2 returns_3)
+    (tie.spec read_number_requires enum_known_n (λ c. let g = c in let r = g in (sym (signed_zero _ _ _ (seen_value _ r.read_number.ensures.0 g.in-Value.is) _ c.if-negative.true (omega arith)), tt)) with_sign_requires enum_told returns_2 returns_3)

@@ -2,6 +2,7 @@
 -- Assumes nothing.
 use Prim.Native.Nat.{◌-◌}
 use borrow.Author.Rules.{rules}
+use native.Mathlib.Omega.{arith}
 use Rattle.table_script.specs.Script.{most_steps}
 use Rattle.table_script.specs.Steps.{seen_read, seen_malformed}
 use Rattle.table_script.specs.Walk.{Turn, first, fault_none, fault_over, fault_at_lem, again}
@@ -21,9 +22,6 @@ add_result : tie.Need-overflow_add-result invariant_loop decreases_loop
 add_result c =
     let t = c.loop-p.invariant in
     search (rules, t.count, t.walk.few)
-
-returns : tie.Need-returns-then-i-ge-MOST_STEPS invariant_loop decreases_loop
-returns c = fault_over c.loop-p.invariant c.loop-p-test.true c.if-i-ge-MOST_STEPS.true
 
 read_step_requires : tie.Need-read_step-requires invariant_loop decreases_loop
 read_step_requires c κs = search rules
@@ -56,7 +54,7 @@ loop_again c =
     let r = g in
     let e = r in
     let l = e in
-    again l.loop-p.invariant l.loop-p-test.true e.if-i-ge-MOST_STEPS.false
+    again l.loop-p.invariant l.loop-p-test.true (omega arith)
     (seen_read _ r.read_step.ensures.0 g.in-Read.is)
 
 returns_3 : tie.Need-returns invariant_loop decreases_loop
@@ -70,7 +68,7 @@ line_at_fault_spec =
     decreases_loop
     loop_holds
     add_result
-    returns
+    (λ c. fault_over c.loop-p.invariant c.loop-p-test.true (omega arith))
     read_step_requires
     enum_known_next
     enum_told

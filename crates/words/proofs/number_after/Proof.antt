@@ -2,6 +2,7 @@
 -- From what `read_line` ensures.
 use mathlib.Core.Path.{sym}
 use borrow.Author.Rules.{rules}
+use native.Mathlib.Omega.{arith}
 use borrow.Author.Tests.{not-true, not-false}
 use Rattle.words.specs.Laws.{no_line, more_after, number, whole}
 use Rattle.words.proofs.number_after.Statement.{statement}
@@ -14,12 +15,6 @@ returns : tie.Need-returns-then-not-read
 returns c =
     let r = c.read_line-read in
     sym (no_line _ _ r.result r.ensures.0 r.ensures.1 (not-true _ c.if-not-read.true))
-
-returns_2 : tie.Need-returns-then-read-line
-returns_2 c =
-    let e = c in
-    let r = e.read_line-read in
-    sym (more_after _ _ r.result r.ensures.0 r.ensures.1 (not-false _ e.if-not-read.false) c.if-read-line.true)
 
 array_copy_out_t9 : tie.Need-bounds-values-0
 array_copy_out_t9 c = search rules
@@ -34,8 +29,8 @@ returns_3 : tie.Need-returns
 returns_3 c =
     let e = c in
     let r = e.read_line-read in
-    sym (number _ _ r.result r.ensures.0 r.ensures.1 (not-false _ e.if-not-read.false) c.if-read-line.false)
+    sym (number _ _ r.result r.ensures.0 r.ensures.1 (not-false _ e.if-not-read.false) (omega arith))
 
 pub number_after_spec : {M : Type 1} → statement M
 number_after_spec =
-    tie.close (tie.spec read_line_requires returns returns_2 array_copy_out_t9 cast_t6 returns_3)
+    tie.close (tie.spec read_line_requires returns (λ c. let e = c in let r = e.read_line-read in sym (more_after _ _ r.result r.ensures.0 r.ensures.1 (not-false _ e.if-not-read.false) (omega arith))) array_copy_out_t9 cast_t6 returns_3)
