@@ -1,5 +1,7 @@
 // C calls on the bytes of a sheet: least interval, plan text, slot order, page, judgement. They read the sheet and call
 // the service; include/leastplan.h describes them.
+#![tactic(auto)]
+
 ghost use Rattle.judge.specs.Bytes.{JudgeOf};
 ghost use Rattle.host.specs.Calls.{LeastOf, PlanTextOf, SlotOrderOf, PageOf};
 
@@ -8,7 +10,7 @@ use text::Written;
 
 // The slot order, or why there is none. A C call gives 5 without the edges.
 #[repr(C)]
-#[derive(Drop)]
+#[derive(Clone, Copy)]
 pub struct OrderAnswer {
     pub answer: usize,
     pub order: usize,

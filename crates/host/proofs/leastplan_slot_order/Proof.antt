@@ -5,17 +5,17 @@ use Rattle.host.specs.Calls.{order_unread, order_served}
 use Rattle.host.proofs.leastplan_slot_order.Statement.{statement}
 use Rattle.host.proofs.leastplan_slot_order.Tie as tie
 
-read_requires : tie.Need-read-requires
+read_requires : tie.Need-read-read-requires
 read_requires c κs = search rules
 
-returns : tie.Need-returns
-returns c = order_unread _ c.before.read.ensures c.if1.true
+returns : tie.Need-returns-then-answer-ne0
+returns c = order_unread _ c.read-read.ensures c.if-answer-ne0.true
 
-slot_order_requires : tie.Need-slot-order-requires
+slot_order_requires : tie.Need-slot_order-found-requires
 slot_order_requires c κs = search rules
 
-returns_2 : tie.Need-returns-2
-returns_2 c = order_served _ c.before.before.before.read.ensures c.before.before.if1.false c.slot-order.ensures
+returns_2 : tie.Need-returns
+returns_2 c = order_served _ c.read-read.ensures c.if-answer-ne0.false c.slot_order-found.ensures
 
 pub leastplan_slot_order_spec : {M : Type 1} → statement M
 leastplan_slot_order_spec =
