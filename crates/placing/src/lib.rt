@@ -247,8 +247,7 @@ fn entry_change(sheet: Sheet, interval: usize, table: Table, op: usize, start: u
 
 // The same on a table that the caller keeps, in Rattle or in C (include/leastplan_placing.h): it stores the operation's
 // start and instance there; with a refusal the table holds what it held.
-#[unsafe(no_mangle)]
-pub extern "C" fn leastplan_place_into(
+pub fn leastplan_place_into(
     table: &mut Table,
     sheet: Sheet,
     interval: usize,
