@@ -11,21 +11,16 @@ use Rattle.start_rules.proofs.in_horizon.Tie as tie
 returns : tie.Need-returns-then-horizon-t
 returns c = no_says (λ p. omega (arith, c.if-horizon-t.true, p.starts))
 
-returns_2 : tie.Need-returns-then-left-gt0
-returns_2 c =
-    let a = c.args in
-    record {
-      yes = λ e. record { starts = omega (arith, c.if-horizon-t.false, c.if-left-gt0.true); finishes = omega (arith, c.if-horizon-t.false, leb-true a.latency (a.horizon - a.t) e) };
-      no = λ e p. omega (arith, c.if-horizon-t.false, leb-false a.latency (a.horizon - a.t) e, p.finishes);
-    }
-
-returns_3 : tie.Need-returns-else-left-gt0
-returns_3 c =
-    let a = c.args in
-    record {
-      yes = λ e. absurd (omega (arith, c.if-left-gt0.false, ltb-true 0 (a.horizon - a.t) e));
-      no = λ e p. omega (arith, ltb-false 0 (a.horizon - a.t) e, p.starts);
-    }
-
 pub in_horizon_spec : {M : Type 1} → statement M
-in_horizon_spec = tie.close (tie.spec returns returns_2 returns_3)
+in_horizon_spec =
+    tie.close
+    (tie.spec
+    returns
+    (λ c. record {
+      yes = λ e. record { starts = omega arith; finishes = omega (arith, c.if-horizon-t.false, leb-true c.args.latency (c.args.horizon - c.args.t) e) };
+      no = λ e p. omega (arith, c.if-horizon-t.false, leb-false c.args.latency (c.args.horizon - c.args.t) e, p.finishes);
+    })
+    (λ c. record {
+      yes = λ e. absurd (omega (arith, ltb-true 0 (c.args.horizon - c.args.t) e));
+      no = λ e p. omega (arith, ltb-false 0 (c.args.horizon - c.args.t) e, p.starts);
+    }))

@@ -17,9 +17,6 @@ element_copy_out_e c = search rules
 returns : tie.Need-returns-then-n-i
 returns c = yes_says (λ a b. absurd (omega (arith, c.if-n-i.true)))
 
-returns_2 : tie.Need-returns-then-n-j
-returns_2 c = yes_says (λ a b. absurd (omega (arith, c.if-n-j.true)))
-
 mul_met : tie.Need-offset_bounds-starts-i
 mul_met c =
     let p = c.requires in
@@ -47,12 +44,12 @@ array_read_met_2 c =
 met_requires : tie.Need-met-requires
 met_requires c κs =
     let p = c.requires in
-    rw (kept c.ranges.total) (p.1 _ c.if-n-i.false, p.1 _ c.if-n-j.false, p.3)
+    rw (kept c.ranges.total) (p.1 _ c.if-n-i.false, p.1 _ (omega arith), p.3)
 
 returns_3 : tie.Need-returns
 returns_3 c =
     last (rw (kept c.ranges.total) at c.met.ensures) (λ m a b. m)
-    (λ f. f c.if-n-i.false c.if-n-j.false)
+    (λ f. f c.if-n-i.false (omega arith))
 
 pub edge_met_spec : {M : Type 1} → statement M
 edge_met_spec =
@@ -61,7 +58,7 @@ edge_met_spec =
     mul_e
     element_copy_out_e
     returns
-    returns_2
+    (λ c. yes_says (λ a b. absurd (omega arith)))
     mul_met
     array_read_met
     mul_met_2
