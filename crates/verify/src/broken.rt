@@ -6,7 +6,7 @@ ghost use Rattle.laws.specs.Says.{Says};
 ghost use Rattle.sheet.specs.Sheet.{InRange, Interval};
 ghost use Rattle.verify.specs.Broken.{PlanUpTo, Breaks};
 
-use crate::{edges, operations, pairs};
+use crate::{each_operation, edges, pairs};
 use sheet::Sheet;
 use sizes::MOST_OPERATIONS;
 
@@ -22,10 +22,10 @@ pub fn kept_up_to(
     requires { InRange sheet × Interval sheet interval × (n ≤ most_operations) }
     ensures { Says (PlanUpTo sheet interval (vec starts) (vec instances) n) result }
 {
-    if !operations::starts_allowed(sheet, interval, starts, n) {
+    if !each_operation::starts_allowed(sheet, interval, starts, n) {
         return false;
     }
-    if !operations::instances_allowed(sheet, instances, n) {
+    if !each_operation::instances_allowed(sheet, instances, n) {
         return false;
     }
     if !edges::all_met(sheet_graph::graph_of(sheet), interval, starts, n) {

@@ -12,8 +12,8 @@ ghost use Rattle.plan.specs.Rules.{Plan};
 ghost use Rattle.verify.specs.Check.{CheckedAt};
 
 mod broken; // broken.rt: the rules among the first operations
+mod each_operation;
 mod edges;
-mod operations;
 mod pairs;
 
 pub use broken::first_broken;

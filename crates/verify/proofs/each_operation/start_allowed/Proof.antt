@@ -1,11 +1,11 @@
--- `verify::operations::start_allowed` meets its contract: the row has the start's flag, and past the row no start is in
+-- `verify::each_operation::start_allowed` meets its contract: the row has the start's flag, and past the row no start is in
 -- the horizon. Assumes nothing.
 use native.Mathlib.Omega.{arith}
 use borrow.Author.Rules.{rules}
 use Rattle.laws.specs.Says.{no_says}
 use Rattle.sheet.specs.Facts.{horizon_most}
-use Rattle.verify.proofs.operations.start_allowed.Statement.{statement}
-use Rattle.verify.proofs.operations.start_allowed.Tie as tie
+use Rattle.verify.proofs.each_operation.start_allowed.Statement.{statement}
+use Rattle.verify.proofs.each_operation.start_allowed.Tie as tie
 
 returns : tie.Need-returns-then-t-ge-MOST_STARTS
 returns c = no_says (λ a. omega (arith, a.in_horizon.starts, horizon_most c.requires, c.if-t-ge-MOST_STARTS.true))

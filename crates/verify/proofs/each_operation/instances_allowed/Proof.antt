@@ -1,4 +1,4 @@
--- `verify::operations::instances_allowed` meets its contract: each operation passed may have its instance.
+-- `verify::each_operation::instances_allowed` meets its contract: each operation passed may have its instance.
 -- Assumes nothing.
 use Prim.Native.Nat.{ℕ, ◌-◌, ◌≤◌, ◌<◌}
 use native.Mathlib.Omega.{arith}
@@ -8,8 +8,8 @@ use Rattle.laws.specs.Says.{yes_says}
 use Rattle.laws.specs.Entry.{vec}
 use Rattle.laws.specs.Says.{no_says}
 use Rattle.plan.specs.Rules.{InstanceAllowed}
-use Rattle.verify.proofs.operations.instances_allowed.Statement.{statement}
-use Rattle.verify.proofs.operations.instances_allowed.Tie as tie
+use Rattle.verify.proofs.each_operation.instances_allowed.Statement.{statement}
+use Rattle.verify.proofs.each_operation.instances_allowed.Tie as tie
 
 abbrev invariant_loop : tie.invariant-loop-i
 invariant_loop sheet n instances i₀ i = (i ≤ n) × ((x : ℕ) → x < i → InstanceAllowed sheet x (vec instances x))

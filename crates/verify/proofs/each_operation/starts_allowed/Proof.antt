@@ -1,4 +1,4 @@
--- `verify::operations::starts_allowed` meets its contract: each operation passed may have its start.
+-- `verify::each_operation::starts_allowed` meets its contract: each operation passed may have its start.
 -- Assumes nothing.
 use Prim.Native.Nat.{ℕ, ◌-◌, ◌≤◌, ◌<◌}
 use native.Mathlib.Omega.{arith}
@@ -8,8 +8,8 @@ use Rattle.laws.specs.Says.{yes_says}
 use Rattle.laws.specs.Entry.{vec}
 use Rattle.laws.specs.Says.{no_says}
 use Rattle.plan.specs.Rules.{StartAllowed}
-use Rattle.verify.proofs.operations.starts_allowed.Statement.{statement}
-use Rattle.verify.proofs.operations.starts_allowed.Tie as tie
+use Rattle.verify.proofs.each_operation.starts_allowed.Statement.{statement}
+use Rattle.verify.proofs.each_operation.starts_allowed.Tie as tie
 
 abbrev invariant_loop : tie.invariant-loop-i
 invariant_loop sheet interval n starts i₀ i = (i ≤ n) × ((x : ℕ) → x < i → StartAllowed sheet interval x (vec starts x))
