@@ -39,20 +39,6 @@ returns_3 c =
     tree_interval j.some_interval-used.ensures j.judge_from-found.ensures (not-false _ c.if-not-found.false)
     (omega (arith, c.if-found-text.false)) (no_interval j.requires c.asked.ensures c.if-asked-ne0.true)
 
-returns_4 : tie.Need-returns-then-found-ne0
-returns_4 c =
-    let j = c in
-    tree_fails j.some_interval-used.ensures j.judge_from-found.ensures (not-false _ c.if-not-found.false)
-    (omega (arith, c.if-found-text.false))
-    (is_interval j.requires c.asked.ensures c.if-asked-ne0.false) c.if-found-ne0.true
-
-returns_5 : tie.Need-returns
-returns_5 c =
-    let j = c in
-    tree_passes j.some_interval-used.ensures j.judge_from-found.ensures (not-false _ c.if-not-found.false)
-    (omega (arith, c.if-found-text.false))
-    (is_interval j.requires c.asked.ensures c.if-asked-ne0.false) c.if-found-ne0.false
-
 pub tree_examined_spec : {M : Type 1} → statement M
 tree_examined_spec =
     tie.close
@@ -65,5 +51,9 @@ tree_examined_spec =
     returns_2
     asked_requires
     returns_3
-    returns_4
-    returns_5)
+    (λ c. tree_fails c.some_interval-used.ensures c.judge_from-found.ensures (not-false _ c.if-not-found.false)
+    (omega (arith, c.if-found-text.false))
+    (is_interval c.requires c.asked.ensures c.if-asked-ne0.false) (omega arith))
+    (λ c. tree_passes c.some_interval-used.ensures c.judge_from-found.ensures (not-false _ c.if-not-found.false)
+    (omega (arith, c.if-found-text.false))
+    (is_interval c.requires c.asked.ensures c.if-asked-ne0.false) (omega arith)))
