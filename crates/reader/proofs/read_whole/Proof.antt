@@ -117,9 +117,6 @@ returns_6 c =
     (is_refused e.read_edges-edges.ensures.0 w))
     e.read_edges-edges.ensures.0.within
 
-refuse_requires_7 : tie.Need-refuse-requires-then-edges-bytes
-refuse_requires_7 c κs = search rules
-
 returns_7 : tie.Need-returns-then-edges-bytes
 returns_7 c =
     let e = c.before.before.before.before.before in
@@ -148,7 +145,7 @@ returns_8 c =
     let s = n.args.bytes.now in
     whole_found c.accept.ensures t.read_types-types.ensures.1 o.read_ops-ops.ensures.1 e.read_edges-edges.ensures.1
     (whole _ h _ _ (horizon_found m) _ _ (cap_found t) _ _ (types_found o) _ (filled_length t.read_types-types.ensures.1) _ _ (ops_found e) _ (filled_length o.read_ops-ops.ensures.1) _ _
-    (is_found e.read_edges-edges.ensures.0 c.if-edges-ne0.false) (drop_of_length-le s c.if-edges-bytes.false))
+    (is_found e.read_edges-edges.ensures.0 c.if-edges-ne0.false) (drop_of_length-le s (omega arith)))
     e.read_edges-edges.ensures.0.within
 
 pub read_whole_spec : {M : Type 1} → statement M
@@ -172,7 +169,7 @@ read_whole_spec =
     read_edges_requires
     refuse_requires_6
     returns_6
-    refuse_requires_7
+    (λ c κs. search rules)
     returns_7
     accept_requires
     returns_8)
