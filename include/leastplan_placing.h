@@ -1,6 +1,5 @@
-/* Placing into a table that a host program in C keeps. Link
-   crates/placing_c/out/libplacing_c.a, which `rt lib` in crates/placing_c/ builds; it may be linked beside libhost.a
-   (leastplan.h).
+/* Placing into a table that a host program in C keeps. Link libplacing.a, a copy of out/libplacing_c.a, which `rt lib`
+   in crates/placing_c/ builds; it may be linked beside libhost.a (leastplan.h).
 
    The placing table (modulo reservation table) is kept for one sheet and one interval: it says which operations are
    placed, at which start and on which instance. A new table is all zero bytes. The sheet goes by value, as numbers;

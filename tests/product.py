@@ -152,6 +152,10 @@ def left_by_ci(name):
     return is_proved(name) and whole
 
 
+# The name by which callers in C link an archive, where rt gives it another.
+FOR_CALLERS = {"placing_c": "libplacing.a"}
+
+
 @functools.cache
 def archive(name="host"):
     """The static library of a crate that has C calls; made anew where a source has changed since. It is proved again as it
@@ -164,6 +168,8 @@ def archive(name="host"):
             else:
                 with proving(name):
                     passes(RT, "lib", folder=in_crate(name))
+        if name in FOR_CALLERS:
+            path = shutil.copyfile(path, made(name, FOR_CALLERS[name]))
     return path
 
 
