@@ -1,6 +1,6 @@
 #!/usr/bin/env python3
 """Brings the repository's own definitions and lemmas to today's spelling: words in snake case, as `web_of` for `webOf`
-and `part_next` for `part-next`. Run once, at the top, on what /opt/rattle/port/port.py left.
+and `part_next` for `part-next`. Run once, at the top, on what the kit's port.py left.
 
 usage: tools/respell.py          rewrites files of crates/, docs/ and README.md in place
        tools/respell.py --list   prints each old and new name, and names that would fall together in a file
