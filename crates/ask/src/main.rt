@@ -5,7 +5,7 @@
 // `commands::answer`, `commands::page_of_plan`, `table_command::answer` and `judge_command::answer`. With words that ask
 // for no command, with lines that are no plan at the interval, and with a line that is no step of a script, it says so
 // on standard error, reads no sheet and prints nothing. What `judge` answers it says on standard error in words, too.
-// A read or a write that fails ends the program with its error.
+// A read, or a write on standard output, that fails ends the program with its error.
 #![tactic(auto)]
 
 ghost use Rattle.std.specs.Io.{ReadsAtMost};
@@ -131,10 +131,12 @@ fn print_page_of_plan(
     let n = read_second(rt, &mut input)?;
     let plan = plan_lines::read(&input[..n]);
     if !plan.ok {
-        return told::no_plan(rt, plan.fault);
+        told::no_plan(rt, plan.fault);
+        return Ok(());
     }
     if plan.interval != interval {
-        return told::another_interval(rt);
+        told::another_interval(rt);
+        return Ok(());
     }
     let count = plan.count;
     let starts = plan.starts;
@@ -161,7 +163,8 @@ fn print_table_of_script(
     let n = read_second(rt, &mut script)?;
     let fault = table_script::line_at_fault(&script[..n]);
     if fault != 0 {
-        return told::no_step(rt, fault);
+        told::no_step(rt, fault);
+        return Ok(());
     }
     print_table(rt, interval, &script[..n])
 }
@@ -175,7 +178,8 @@ fn print_judged(rt: &(impl Input + Print + Eprint), given: &[u8]) -> io::Result<
     let count = written.count;
     rt.write_all(&out[..count])?;
     let found = judge_command::examine(&input[..n], given);
-    told::judged(rt, given, found.answer, found.line)
+    told::judged(rt, given, found.answer, found.line);
+    Ok(())
 }
 
 // Room for another supplier's answer: in a function of its own, so that no proof looks into so many bytes.
@@ -194,14 +198,15 @@ fn main(rt: HostRuntime) -> io::Result<()> {
     let mut name = [0u8; LONGEST_NAME];
     let n = rt.arg(1, &mut name).unwrap_or(0);
     match requests::request(&name[..n], arguments(&rt)) {
-        Asked::Do(command) => print(&rt, command),
-        Asked::PageOfPlan(interval) => print_page_of_plan(&rt, interval),
-        Asked::Table(interval) => print_table_of_script(&rt, interval),
-        Asked::Judge => print_judged_answer(&rt),
+        Asked::Do(command) => print(&rt, command)?,
+        Asked::PageOfPlan(interval) => print_page_of_plan(&rt, interval)?,
+        Asked::Table(interval) => print_table_of_script(&rt, interval)?,
+        Asked::Judge => print_judged_answer(&rt)?,
         Asked::Unknown => told::unknown(&rt),
         Asked::Strange => told::strange(&rt),
         Asked::Missing(argument) => told::fault(&rt, argument, " is missing"),
         Asked::Twice(argument) => told::fault(&rt, argument, " is given more than once"),
         Asked::Foreign(argument) => told::fault(&rt, argument, " is no argument of this command"),
     }
+    Ok(())
 }

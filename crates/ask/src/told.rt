@@ -2,27 +2,27 @@
 // no step; and of another supplier's answer, whether it passed or not. `./leastplan` speaks to the person, so its name
 // stands first. The words themselves are not repeated.
 use plan_lines::MOST_LINES;
-use std::io;
 use table_script::MOST_STEPS;
 use words::INTERVAL;
 
-fn say(rt: &impl Eprint, text: &str) -> io::Result<()> {
-    rt.eprint(text)
+// What cannot be said is lost: the answer on standard output is the same.
+fn say(rt: &impl Eprint, text: &str) {
+    let _ = rt.eprint(text);
 }
 
 // What is named and what is wrong with it, in one line.
-fn line(rt: &impl Eprint, what: &str, wrong: &str) -> io::Result<()> {
-    say(rt, "leastplan: ")?;
-    say(rt, what)?;
-    say(rt, wrong)?;
+fn line(rt: &impl Eprint, what: &str, wrong: &str) {
+    say(rt, "leastplan: ");
+    say(rt, what);
+    say(rt, wrong);
     say(rt, "; try --help\n")
 }
 
-pub fn unknown(rt: &impl Eprint) -> io::Result<()> {
-    line(rt, "unknown command", "")
+pub fn unknown(rt: &impl Eprint) {
+    line(rt, "unknown command", "");
 }
 
-pub fn strange(rt: &impl Eprint) -> io::Result<()> {
+pub fn strange(rt: &impl Eprint) {
     line(
         rt,
         "an argument",
@@ -31,24 +31,24 @@ pub fn strange(rt: &impl Eprint) -> io::Result<()> {
 }
 
 // What is wrong with an argument, which goes by its number.
-pub fn fault(rt: &impl Eprint, argument: usize, wrong: &str) -> io::Result<()> {
+pub fn fault(rt: &impl Eprint, argument: usize, wrong: &str) {
     if argument == INTERVAL {
-        line(rt, "interval=", wrong)
+        line(rt, "interval=", wrong);
     } else {
-        line(rt, "pair=", wrong)
+        line(rt, "pair=", wrong);
     }
 }
 
 // What is wrong with a line of a file, which goes by its number.
-fn at_line(rt: &impl Eprint, number: usize, wrong: &str) -> io::Result<()> {
-    say(rt, "leastplan: line ")?;
-    rt.eprint(number)?;
-    say(rt, wrong)?;
-    say(rt, "\n")
+fn at_line(rt: &impl Eprint, number: usize, wrong: &str) {
+    say(rt, "leastplan: line ");
+    let _ = rt.eprint(number);
+    say(rt, wrong);
+    say(rt, "\n");
 }
 
 // The line of a plan that is not as leastplan prints it, or is past the most, by its number.
-pub fn no_plan(rt: &impl Eprint, number: usize) -> io::Result<()> {
+pub fn no_plan(rt: &impl Eprint, number: usize) {
     if MOST_LINES < number {
         at_line(
             rt,
@@ -64,7 +64,7 @@ pub fn no_plan(rt: &impl Eprint, number: usize) -> io::Result<()> {
     }
 }
 
-pub fn another_interval(rt: &impl Eprint) -> io::Result<()> {
+pub fn another_interval(rt: &impl Eprint) {
     line(
         rt,
         "the plan",
@@ -73,7 +73,7 @@ pub fn another_interval(rt: &impl Eprint) -> io::Result<()> {
 }
 
 // The line of a script that is no step, or is past the most, by its number.
-pub fn no_step(rt: &impl Eprint, number: usize) -> io::Result<()> {
+pub fn no_step(rt: &impl Eprint, number: usize) {
     if MOST_STEPS < number {
         at_line(
             rt,
@@ -101,9 +101,9 @@ fn is_plan(given: &[u8]) -> bool {
 }
 
 // What passed: the plan or the tree of a denial.
-fn passed(rt: &impl Eprint, plan: bool) -> io::Result<()> {
+fn passed(rt: &impl Eprint, plan: bool) {
     if plan {
-        say(rt, "leastplan: the plan keeps every rule\n")
+        say(rt, "leastplan: the plan keeps every rule\n");
     } else {
         say(
             rt,
@@ -113,16 +113,16 @@ fn passed(rt: &impl Eprint, plan: bool) -> io::Result<()> {
 }
 
 // A line that is well formed and does not hold.
-fn not_so(rt: &impl Eprint, plan: bool, number: usize) -> io::Result<()> {
+fn not_so(rt: &impl Eprint, plan: bool, number: usize) {
     if plan {
-        at_line(rt, number, " of the answer breaks a rule of a plan")
+        at_line(rt, number, " of the answer breaks a rule of a plan");
     } else {
-        at_line(rt, number, " of the answer is not so")
+        at_line(rt, number, " of the answer is not so");
     }
 }
 
 // What is answered to another supplier's answer, and the line of it at fault.
-pub fn judged(rt: &impl Eprint, given: &[u8], answer: usize, number: usize) -> io::Result<()> {
+pub fn judged(rt: &impl Eprint, given: &[u8], answer: usize, number: usize) {
     match answer {
         0 => passed(rt, is_plan(given)),
         4 => at_line(
