@@ -14,13 +14,14 @@ import os
 import re
 import subprocess
 import sys
+import tempfile
 
 import goal_paths
 
 BASE = "10d868f"  # the commit in which port.py ran
 ROOT = os.path.dirname(os.path.dirname(os.path.abspath(__file__)))
 plain = goal_paths.plain
-NAMES = os.path.join(ROOT, "crates", "out", "names")  # out/ is never committed
+NAMES = os.path.join(tempfile.gettempdir(), "names-of-proofs")
 WORD = r"[^\s(){}.;,@\"«»\[\]\\]+"
 
 
