@@ -34,12 +34,6 @@ loop_holds c = (omega arith, omega arith, none_below_one _)
 plan_at_requires : tie.Need-plan_at-plan-requires invariant_loop decreases_loop
 plan_at_requires c κs = search rules
 
-returns_2 : tie.Need-returns-then-plan-eq0 invariant_loop decreases_loop
-returns_2 c =
-    let p = c in
-    let l = p in
-    at_yes (passed l.before.before.before.before.before) (least_answer p.plan_at-plan.ensures c.if-plan-eq0.true l.loop-interval.invariant.2)
-
 add_interval : tie.Need-overflow_add-interval invariant_loop decreases_loop
 add_interval c =
     let l = c in
@@ -56,7 +50,7 @@ loop_again c =
     let y : Accepted _ _ = record { sheet = passed l.before.before.before.before.before; interval = record { low = l.loop-interval.invariant.0; high = p.loop-interval-test.true } } in (
       omega arith,
       omega (arith, p.loop-interval-test.true),
-      none_more l.loop-interval.invariant.2 y p.plan_at-plan.ensures c.if-plan-eq0.false,
+      none_more l.loop-interval.invariant.2 y p.plan_at-plan.ensures (λ e. absurd (omega (arith, e))),
     )
 
 returns_3 : tie.Need-returns invariant_loop decreases_loop
@@ -74,7 +68,8 @@ least_interval_spec =
     returns
     loop_holds
     plan_at_requires
-    returns_2
+    -- the way out at a plan: its name would hold the tested number, so the answer has none
+    (λ c. at_yes (passed c.before.before.before.before.before) (least_answer c.plan_at-plan.ensures (omega arith) c.loop-interval.invariant.2))
     add_interval
     loop_less
     loop_again
