@@ -71,15 +71,23 @@ def last_change():
 
 
 def stamp_of(name):
-    """Names the kit that the crate was proved with, and is as old as the sources were then at least (./leastplan, .ci/run)."""
+    """Names the kit that the crate was proved with and the folders there were, and is as old as the sources were then at
+    least (./leastplan, .ci/run)."""
     return made(name, name + ".proved")
+
+
+def made_of():
+    """What a stamp holds: the kit, and the folders of all crates, so that one that was removed is missed."""
+    with open(os.path.join(KIT, "KIT-ID"), "rb") as kit:
+        folders = [it for it in glob.glob("crates/*/*/", root_dir=ROOT) if not it.endswith("/out/")]
+        return kit.read() + b"".join(it.encode() + b"\n" for it in sorted(folders))
 
 
 def is_proved(name):
     """Whether the crate was proved with this kit and no source has changed since."""
     try:
-        with open(stamp_of(name), "rb") as stamp, open(os.path.join(KIT, "KIT-ID"), "rb") as kit:
-            same = stamp.read() == kit.read()
+        with open(stamp_of(name), "rb") as stamp:
+            same = stamp.read() == made_of()
         return same and os.stat(stamp_of(name)).st_mtime_ns >= last_change()
     except OSError:
         return False
@@ -90,7 +98,8 @@ def proving(name):
     """Stamps a crate where what is done meanwhile passes; the stamp is of the time before."""
     os.makedirs(made(name, ""), exist_ok=True)
     new = stamp_of(name) + ".new"
-    shutil.copyfile(os.path.join(KIT, "KIT-ID"), new)
+    with open(new, "wb") as out:
+        out.write(made_of())
     yield
     os.replace(new, stamp_of(name))
 
