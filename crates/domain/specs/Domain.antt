@@ -49,20 +49,11 @@ pub record FirstIn (Plan : (ℕ → ℕ) → Type 0) (n : ℕ) (ok : List (List 
 
 -- ---- rows
 
--- r is the flag b of start t where t is below x, else false
-pub record Under (b : Bool) (t x : ℕ) (r : Bool) : Type 0 where
-  pub yes : r ≡ true → (b ≡ true) × (t < x)
-  pub back : b ≡ true → t < x → r ≡ true
-
--- r is the flag b of start t where t is of class s modulo m (slot s, where m is the interval), else false
-pub record InClass (b : Bool) (t s m : ℕ) (r : Bool) : Type 0 where
-  pub yes : r ≡ true → (b ≡ true) × (t % m ≡ s)
-  pub back : b ≡ true → t % m ≡ s → r ≡ true
-
--- r is the flag b of start t where t is of another class than s modulo m, else false
-pub record OffClass (b : Bool) (t s m : ℕ) (r : Bool) : Type 0 where
-  pub yes : r ≡ true → (b ≡ true) × (t % m ≢ s)
-  pub back : b ≡ true → t % m ≢ s → r ≡ true
+-- the starts of q that pass a test, where `test t b` says that the test may answer b of start t
+pub record Kept (test : ℕ → Bool → Type 0) (q : List Bool) (r : List Bool) : Type 0 where
+  pub passes : (t : ℕ) → t < most_starts → has r t ≡ true → test t true
+  pub fails : (t : ℕ) → t < most_starts → has q t ≡ true → has r t ≡ false → test t false
+  pub was : Part r q
 
 -- the class of the start after one of class s
 pub record NextClass (s m r : ℕ) : Type 0 where
@@ -71,7 +62,7 @@ pub record NextClass (s m r : ℕ) : Type 0 where
 
 -- the starts of q in the class s modulo m
 pub record OnlyClass (q : List Bool) (s m : ℕ) (r : List Bool) : Type 0 where
-  pub in_class_lem : (t : ℕ) → t < most_starts → t % m ≡ s → has q t ≡ true → has r t ≡ true
+  pub in_class : (t : ℕ) → t < most_starts → t % m ≡ s → has q t ≡ true → has r t ≡ true
   pub of_class : (t : ℕ) → t < most_starts → has r t ≡ true → t % m ≡ s
   pub was : Part r q
 

@@ -134,7 +134,7 @@ module _ (Plan : (ℕ → ℕ) → Type 0) (n : ℕ) {d : List (List Bool)} {i m
     left_next {f} {x} {q} z e w = record { part = part_trans w.was l.part; left = λ t p h. pick t p h (ℕ_discrete (t i % m) s) }
       where
         pick : (t : ℕ → ℕ) → Plan t → In n d t → Dec (t i % m ≡ s) → has q (t i) ≡ true
-        pick t p h (yes c) = absurd (z.none e t p (in_set r here h (o.in_class_lem (t i) (h.small i sp.op) c (l.left t p h))))
+        pick t p h (yes c) = absurd (z.none e t p (in_set r here h (o.in_class (t i) (h.small i sp.op) c (l.left t p h))))
         pick t p h (no c) = w.other (t i) (h.small i sp.op) c (l.left t p h)
 
   -- no start of i is left

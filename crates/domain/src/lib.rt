@@ -8,7 +8,7 @@
 
 ghost use Rattle.std.specs.Prelude.{◌≡◌, true, false, ℕ, ◌+◌, ◌≤◌, ◌<◌};
 ghost use Rattle.sizes.specs.Sizes.{most_starts};
-ghost use Rattle.domain.specs.Domain.{Under, InClass, OffClass, OnlyClass, WithoutClass, NextClass, Below, From, Only, Least, End, Other};
+ghost use Rattle.domain.specs.Domain.{Kept, OnlyClass, WithoutClass, NextClass, Below, From, Only, Least, End, Other};
 
 use sizes::{MOST_OPERATIONS, MOST_STARTS};
 
@@ -18,6 +18,7 @@ pub type Row = [bool; MOST_STARTS];
 pub type Domain = [Row; MOST_OPERATIONS];
 
 // The class of the start after one of this class.
+#[tactic(auto, using(crate::specs::Rows::next_inner, crate::specs::Rows::next_wraps))]
 pub fn next_class(class: usize, modulus: usize) -> usize
     requires { class < modulus }
     ensures { NextClass class modulus result }
@@ -26,20 +27,16 @@ pub fn next_class(class: usize, modulus: usize) -> usize
     if next < modulus { next } else { 0 }
 }
 
-// The flag of start t, where t is of the class.
-fn in_class(flag: bool, t: usize, class: usize, modulus: usize) -> bool
-    requires { 0 < modulus }
-    ensures { InClass flag t class modulus result }
+// The starts of the row that pass the test.
+fn kept<F: Fn(usize) -> bool>(row: Row, keep: F) -> Row
+    requires { (t : ℕ) → t < most_starts → F.pre keep t }
+    ensures { Kept (F.post keep) row result }
 {
-    if t % modulus == class { flag } else { false }
-}
-
-// The flag of start t, where t is of another class.
-fn off_class(flag: bool, t: usize, class: usize, modulus: usize) -> bool
-    requires { 0 < modulus }
-    ensures { OffClass flag t class modulus result }
-{
-    if t % modulus == class { false } else { flag }
+    let mut out = row;
+    for (t, flag) in out.iter_mut().enumerate() {
+        *flag = *flag && keep(t);
+    }
+    out
 }
 
 // The starts of the row that are of the class.
@@ -47,13 +44,7 @@ pub fn only_class(row: Row, class: usize, modulus: usize) -> Row
     requires { 0 < modulus }
     ensures { OnlyClass row class modulus result }
 {
-    let mut out = row;
-    let mut t: usize = 0;
-    while t < MOST_STARTS {
-        out[t] = in_class(row[t], t, class, modulus);
-        t += 1;
-    }
-    out
+    kept(row, |t| t % modulus == class)
 }
 
 // The starts of the row that are of another class.
@@ -61,46 +52,21 @@ pub fn without_class(row: Row, class: usize, modulus: usize) -> Row
     requires { 0 < modulus }
     ensures { WithoutClass row class modulus result }
 {
-    let mut out = row;
-    let mut t: usize = 0;
-    while t < MOST_STARTS {
-        out[t] = off_class(row[t], t, class, modulus);
-        t += 1;
-    }
-    out
-}
-
-// The flag of start t, where t is below the end.
-pub fn under(flag: bool, t: usize, end: usize) -> bool
-    ensures { Under flag t end result }
-{
-    if t < end { flag } else { false }
+    kept(row, |t| t % modulus != class)
 }
 
 // The starts of the row below the end.
 pub fn below(row: Row, end: usize) -> Row
     ensures { Below row end result }
 {
-    let mut out = row;
-    let mut t: usize = 0;
-    while t < MOST_STARTS {
-        out[t] = under(row[t], t, end);
-        t += 1;
-    }
-    out
+    kept(row, |t| t < end)
 }
 
 // The starts of the row from `start` on.
 pub fn from_start(row: Row, start: usize) -> Row
     ensures { From row start result }
 {
-    let mut out = row;
-    let mut t: usize = 0;
-    while t < MOST_STARTS {
-        out[t] = under(row[t], start, t + 1);
-        t += 1;
-    }
-    out
+    kept(row, |t| start <= t)
 }
 
 // One start alone.
@@ -117,29 +83,18 @@ pub fn only(start: usize) -> Row
 pub fn least(row: Row) -> usize
     ensures { Least row result }
 {
-    let mut t: usize = 0;
-    while t < MOST_STARTS {
-        if row[t] {
-            return t;
-        }
-        t += 1;
-    }
-    MOST_STARTS
+    row.iter()
+        .position(|allowed| *allowed)
+        .unwrap_or(MOST_STARTS)
 }
 
 // One past the last start of the row, or 0.
 pub fn end_of(row: Row) -> usize
     ensures { End row result }
 {
-    let mut end = MOST_STARTS;
-    while 0 < end {
-        let t = end - 1;
-        if row[t] {
-            return end;
-        }
-        end = t;
-    }
-    0
+    row.iter()
+        .rposition(|allowed| *allowed)
+        .map_or(0, |last| last + 1)
 }
 
 // Whether the row has a start of another class than this one.
@@ -148,27 +103,12 @@ pub fn other_class(row: Row, start: usize, modulus: usize) -> bool
     ensures { Other row start modulus result }
 {
     let class = start % modulus;
-    let mut t: usize = 0;
-    while t < MOST_STARTS {
-        if off_class(row[t], t, class, modulus) {
-            return true;
-        }
-        t += 1;
-    }
-    false
-}
-
-fn either(a: bool, b: bool) -> bool {
-    if a { true } else { b }
+    row.iter()
+        .enumerate()
+        .any(|(t, allowed)| *allowed && t % modulus != class)
 }
 
 // Whether two rows differ. No promise: callers only take it for which rows are worth another look.
 pub fn differ(a: &Row, b: &Row) -> bool {
-    let mut any = false;
-    let mut t: usize = 0;
-    while t < MOST_STARTS {
-        any = either(any, a[t] != b[t]);
-        t += 1;
-    }
-    any
+    a != b
 }
