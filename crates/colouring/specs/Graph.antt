@@ -1,6 +1,6 @@
 -- Colourings of a graph with n nodes by a colours. The graph is a table: row i has a flag for each node that i is
 -- joined to.
-use Rattle.std.specs.Prelude.{◌≡◌, Bool, true, false, List, ℕ, ◌<◌}
+use Rattle.std.specs.Prelude.{◌≡◌, Bool, true, List, ℕ, ◌<◌, Option, MatchOption}
 use Rattle.laws.specs.Entry.{vec}
 use Rattle.domain.specs.Domain.{has, row_of, Before}
 
@@ -30,17 +30,18 @@ pub record Extends (n : ℕ) (c : List (List Bool)) (a : ℕ) (done : List Bool)
   pub same : (i : ℕ) → i < n → has done i ≡ true → w i ≡ vec u i
 
 -- what a search for such a colouring answers
-pub record Searched (n : ℕ) (c : List (List Bool)) (a : ℕ) (done : List Bool) (u : List ℕ) (found : Bool) (w : List ℕ) : Type 0 where
-  pub extends : found ≡ true → Extends n c a done u (vec w)
-  pub none : found ≡ false → (x : ℕ → ℕ) → Extends n c a done u x → ⊥
+abbrev pub Searched : ℕ → List (List Bool) → ℕ → List Bool → List ℕ → Option (List ℕ) → Type 0
+Searched n c a done u found = MatchOption found ((x : ℕ → ℕ) → Extends n c a done u x → ⊥) (λ w. Extends n c a done u (vec w))
 
 -- a colouring, or that there is none
-pub record SomeColouring (n : ℕ) (c : List (List Bool)) (a : ℕ) (found : Bool) (w : List ℕ) : Type 0 where
-  pub coloured : found ≡ true → Coloured n c a (vec w)
-  pub none : found ≡ false → (x : ℕ → ℕ) → Coloured n c a x → ⊥
+abbrev pub SomeColouring : ℕ → List (List Bool) → ℕ → Option (List ℕ) → Type 0
+SomeColouring n c a found = MatchOption found ((x : ℕ → ℕ) → Coloured n c a x → ⊥) (λ w. Coloured n c a (vec w))
 
--- the first colouring by the order of nodes, or that there is none
-pub record FirstColouring (n : ℕ) (c : List (List Bool)) (a : ℕ) (found : Bool) (w : List ℕ) : Type 0 where
-  pub coloured : found ≡ true → Coloured n c a (vec w)
-  pub first : found ≡ true → (x : ℕ → ℕ) → Coloured n c a x → Before n (vec w) x
-  pub none : found ≡ false → (x : ℕ → ℕ) → Coloured n c a x → ⊥
+-- w is the first colouring by the order of nodes
+pub record First (n : ℕ) (c : List (List Bool)) (a : ℕ) (w : ℕ → ℕ) : Type 0 where
+  pub coloured : Coloured n c a w
+  pub first : (x : ℕ → ℕ) → Coloured n c a x → Before n w x
+
+-- the first colouring, or that there is none
+abbrev pub FirstColouring : ℕ → List (List Bool) → ℕ → Option (List ℕ) → Type 0
+FirstColouring n c a found = MatchOption found ((x : ℕ → ℕ) → Coloured n c a x → ⊥) (λ w. First n c a (vec w))

@@ -1,9 +1,10 @@
 -- Laws of the search for a colouring: a colour more, colours that are free for the same nodes, and the first colouring.
-use Rattle.std.specs.Prelude.{◌≡◌, refl, Bool, ◌⊎◌, ◌≢◌, List, ℕ, ◌+◌, ◌≤◌, ◌<◌, set, length}
+use Rattle.std.specs.Prelude.{◌≡◌, refl, Bool, not, ◌⊎◌, ◌≢◌, List, ℕ, ◌+◌, ◌≤◌, ◌<◌, set, length, replicate}
 use Rattle.std.proofs.Common.{sym, ap, subst, ◌∙◌, inl, inr, ⊎_elim, arith, get_or-set_same, get_or-set_other}
 use Rattle.std.proofs.Math.Bool.{true, false, cond}
+use Rattle.std.proofs.lemmas.List.{get_or-replicate}
 use Rattle.std.proofs.Math.Decide.{ℕ_discrete, dec_lt}
-use Rattle.sizes.specs.Sizes.{most_instances}
+use Rattle.sizes.specs.Sizes.{most_instances, most_operations}
 use Rattle.laws.specs.Tests.{by_test}
 use Rattle.laws.specs.Entry.{vec}
 use Rattle.laws.specs.Z.{true_false}
@@ -11,8 +12,8 @@ use Rattle.laws.specs.Store.{store}
 use Rattle.laws.specs.Count.{tally, tally_lt}
 use Rattle.laws.specs.Swap.{swap, swap_spec, swap_below, swap_same, swap_there}
 use Rattle.domain.specs.Domain.{has, row_of}
-use Rattle.colouring.specs.Graph.{joins, Graph, Coloured, Partial, Extends, Searched, SomeColouring, FirstColouring}
-use Rattle.colouring.specs.Parts.{Clear, ClearTable, SameColumn, Twin, Left, LeastAt, OpenNode, Lowest}
+use Rattle.colouring.specs.Graph.{joins, Graph, Coloured, Partial, Extends, First}
+use Rattle.colouring.specs.Parts.{Clear, ClearTable, SameColumn, Twin, Left, LeastAt, Worth}
 
 -- the nodes without a colour
 pub bare : ℕ → List Bool → ℕ
@@ -154,37 +155,28 @@ module _ (n : ℕ) (c : List (List Bool)) (a : ℕ) (g : Graph n c) (done : List
     extends_here x e = e.same i h (get_or-set_same done i true false ld) ∙ colour_here
 
     -- the search with the colour v at node i found none
-    pub left_tried : {b : Bool} {w : List ℕ} → Left n c a done u i v → Searched n c a (set done i true) (set u i v) b w → b ≡ false → Left n c a done u i (v + 1)
-    left_tried l s e = left_step l (λ x m q. s.none e x (extends_more x m q))
+    pub left_tried : Left n c a done u i v → ((x : ℕ → ℕ) → Extends n c a (set done i true) (set u i v) x → ⊥) → Left n c a done u i (v + 1)
+    left_tried l s = left_step l (λ x m q. s x (extends_more x m q))
 
-    pub found_back : {b : Bool} {w : List ℕ} → Searched n c a (set done i true) (set u i v) b w → b ≡ true → Searched n c a done u b w
-    found_back {b} {w} s e = record { extends = λ _. extends_back (vec w) (s.extends e); none = λ q. true_false (sym e ∙ q) }
-
-    pub found_least : {b : Bool} {w : List ℕ} → Left n c a done u i v → Searched n c a (set done i true) (set u i v) b w → b ≡ true → LeastAt n c a done u i w
-    found_least {b} {w} l s e = record { extends = extends_back (vec w) (s.extends e); least = record { left = λ x m. omega (arith, extends_here (vec w) (s.extends e), l.left x m) } }
+    pub found_least : {w : List ℕ} → Left n c a done u i v → Extends n c a (set done i true) (set u i v) (vec w) → LeastAt n c a done u i w
+    found_least {w} l s = record { extends = extends_back (vec w) s; least = record { left = λ x m. omega (arith, extends_here (vec w) s, l.left x m) } }
 
   -- ---- the end
 
   -- every node has its colour
-  pub whole : {r : ℕ} {b : Bool} {w : List ℕ} → Partial n c a done u → OpenNode n done r → n ≤ r → b ≡ true → w ≡ u → Searched n c a done u b w
-  whole {r} {b} {w} p o l e q = subst (λ (z : List ℕ). Searched n c a done u b z) (sym q) (record {
-    extends = λ _. record {
-      coloured = record { below = λ i h. p.below i h (o.all_done l i h); apart = λ i k h m. p.apart i k h m (o.all_done l i h) (o.all_done l k m) };
-      same = λ i h d. refl;
-    };
-    none = λ x. true_false (sym e ∙ x);
-  })
+  pub whole : Partial n c a done u → ((i : ℕ) → i < n → has done i ≡ true) → Extends n c a done u (vec u)
+  whole p all = record { coloured = record { below = λ i h. p.below i h (all i h); apart = λ i k h m. p.apart i k h m (all i h) (all k m) }; same = λ i h d. refl }
 
   -- no colour is left for node i
-  pub used_up : {i v : ℕ} {b : Bool} {w : List ℕ} → i < n → Left n c a done u i v → a ≤ v → b ≡ false → Searched n c a done u b w
-  used_up {i} {v} h l m e = record { extends = λ q. true_false (sym q ∙ e); none = λ _ x s. absurd (omega (arith, l.left x s, s.coloured.below i h)) }
+  pub used_up : {i v : ℕ} → i < n → Left n c a done u i v → a ≤ v → (x : ℕ → ℕ) → Extends n c a done u x → ⊥
+  used_up {i} h l m x s = omega (arith, l.left x s, s.coloured.below i h)
 
   -- the colour of i in `best` is the least
-  pub best_least : {i v : ℕ} {best : List ℕ} → Searched n c a done u true best → Left n c a done u i v → vec best i ≤ v → LeastAt n c a done u i best
-  best_least {i} {v} {best} s l m = record { extends = s.extends refl; least = record { left = λ x e. omega (arith, l.left x e) } }
+  pub best_least : {i v : ℕ} {best : List ℕ} → Extends n c a done u (vec best) → Left n c a done u i v → vec best i ≤ v → LeastAt n c a done u i best
+  best_least s l m = record { extends = s; least = record { left = λ x e. omega (arith, l.left x e) } }
 
-  pub searched_least : {i : ℕ} {w : List ℕ} → (h : i < n) → has done i ≡ false → i < length done → i < length u → LeastAt n c a done u i w → Searched n c a (set done i true) (set u i (vec w i)) true w
-  searched_least {i} {w} h d ld lu l = record { extends = λ _. extends_more i (vec w i) h d ld lu (vec w) l.extends refl; none = λ q. true_false q }
+  pub least_more : {i : ℕ} {w : List ℕ} → i < n → has done i ≡ false → i < length done → i < length u → LeastAt n c a done u i w → Extends n c a (set done i true) (set u i (vec w i)) (vec w)
+  least_more {i} {w} h d ld lu l = extends_more i (vec w i) h d ld lu (vec w) l.extends refl
 
   -- ---- the nodes in turn
 
@@ -203,20 +195,28 @@ module _ (n : ℕ) (c : List (List Bool)) (a : ℕ) (g : Graph n c) (done : List
     rest = λ x q. inl (λ i l. absurd (omega arith));
   }
 
-  pub lead_done : {k : ℕ} {b : Bool} {w : List ℕ} → Lead k → k ≡ n → b ≡ true → w ≡ u → FirstColouring n c a b w
-  lead_done {k} {b} {w} l e y q = subst (λ (z : List ℕ). FirstColouring n c a b z) (sym q) (record {
-    coloured = λ _. record { below = λ i h. l.partial.below i h (l.coloured i h (omega arith)); apart = λ i j h m. l.partial.apart i j h m (l.coloured i h (omega arith)) (l.coloured j m (omega arith)) };
-    first = λ _ x o. record { case = ⊎_elim (λ s. inl (λ i h. s i (omega arith))) (λ s. inr (s.0, omega (arith, s.1), s.2, s.3)) (l.rest x o) };
-    none = λ z. true_false (sym y ∙ z);
-  })
+  pub lead_done : {k : ℕ} → Lead k → k ≡ n → First n c a (vec u)
+  lead_done l e = record {
+    coloured = record { below = λ i h. l.partial.below i h (l.coloured i h (omega arith)); apart = λ i j h m. l.partial.apart i j h m (l.coloured i h (omega arith)) (l.coloured j m (omega arith)) };
+    first = λ x o. record { case = ⊎_elim (λ s. inl (λ i h. s i (omega arith))) (λ s. inr (s.0, omega (arith, s.1), s.2, s.3)) (l.rest x o) };
+  }
 
   -- colours below the lowest clear one are in no colouring
-  pub lowest_left : {k r : ℕ} → k < n → Lowest n c done u k a r → Left n c a done u k r
+  pub lowest_left : {k r : ℕ} → k < n → ((v : ℕ) → v < r → Clear n c done u k v → ⊥) → Left n c a done u k r
   lowest_left {k} {r} h l = record { left = λ x e. pick x e (dec_lt (x k) r) }
     where
       pick : (x : ℕ → ℕ) → Extends n c a done u x → Dec (x k < r) → r ≤ x k
-      pick x e (yes q) = absurd (l.lower (x k) q (has_clear x e k h))
+      pick x e (yes q) = absurd (l (x k) q (has_clear x e k h))
       pick x e (no q) = omega arith
+
+-- whether a colour is worth a try, from its flag and from those of the lower colours
+module _ {n : ℕ} {done : List Bool} {f : List (List Bool)} {i v : ℕ} (h : i < n) (hv : v < most_instances) (d : has done i ≡ false) where
+  pub worth_taken : has (row_of f i) v ≡ false → Worth n done f i v false
+  worth_taken e = record { clear = λ q. true_false (sym q); skip = λ _ c u a l s g z b. left_taken n c a g done u h b (((z.node i h).colour v hv).no e) }
+
+  pub worth_clear : (b : Bool) → has (row_of f i) v ≡ true → Twin n done f v b → Worth n done f i v (not b)
+  worth_clear true e t = record { clear = λ q. true_false (sym q); skip = λ _ c u a l s g z b. left_twin n c a g done u h d l s z b t }
+  worth_clear false e t = record { clear = λ _ c u z. ((z.node i h).colour v hv).yes e; skip = λ q. true_false q }
 
 module _ (n : ℕ) (c : List (List Bool)) (a : ℕ) (g : Graph n c) (done : List Bool) (u : List ℕ) (k v : ℕ) (h : k < n) (ld : k < length done) (lu : k < length u) (l : Lead n c a g done u k) where
   pub lead_next : v < a → Clear n c done u k v → Left n c a done u k v → Lead n c a g (set done k true) (set u k v) (k + 1)
@@ -260,11 +260,13 @@ module _ (n : ℕ) (c : List (List Bool)) (a : ℕ) (g : Graph n c) (done : List
 pub extends_all : {n a : ℕ} {c : List (List Bool)} {done : List Bool} {u : List ℕ} → ((i : ℕ) → i < n → has done i ≡ false) → (x : ℕ → ℕ) → Coloured n c a x → Extends n c a done u x
 extends_all z x o = record { coloured = o; same = λ i h d. true_false (sym d ∙ z i h) }
 
-pub some_from : {n a : ℕ} {c : List (List Bool)} {done : List Bool} {u w : List ℕ} {b : Bool} → ((i : ℕ) → i < n → has done i ≡ false) → Searched n c a done u b w → SomeColouring n c a b w
-some_from z s = record { coloured = λ e. (s.extends e).coloured; none = λ e x o. s.none e x (extends_all z x o) }
+-- a search over no colours is one for a colouring
+pub none_at_all : {n a : ℕ} {c : List (List Bool)} {done : List Bool} {u : List ℕ} → ((i : ℕ) → i < n → has done i ≡ false) → ((x : ℕ → ℕ) → Extends n c a done u x → ⊥) → (x : ℕ → ℕ) → Coloured n c a x → ⊥
+none_at_all z none x o = none x (extends_all z x o)
 
-pub first_none : {n a : ℕ} {c : List (List Bool)} {done : List Bool} {u v w : List ℕ} {b : Bool} → ((i : ℕ) → i < n → has done i ≡ false) → Searched n c a done u b v → b ≡ false → FirstColouring n c a false w
-first_none z s e = record { coloured = λ q. true_false (sym q); first = λ q. true_false (sym q); none = λ _ x o. s.none e x (extends_all z x o) }
+-- no node has a colour yet
+pub all_bare : {n : ℕ} → n ≤ most_operations → (i : ℕ) → i < n → has (replicate most_operations false) i ≡ false
+all_bare m i h = get_or-replicate most_operations i false false (omega arith)
 
-pub first_found : {n a : ℕ} {c : List (List Bool)} {w : List ℕ} {b : Bool} → FirstColouring n c a true w → b ≡ true → FirstColouring n c a b w
-first_found f e = record { coloured = λ _. f.coloured refl; first = λ _. f.first refl; none = λ q. true_false (sym e ∙ q) }
+pub partial_none : {n a : ℕ} {c : List (List Bool)} {u : List ℕ} → n ≤ most_operations → Partial n c a (replicate most_operations false) u
+partial_none m = record { below = λ i h d. true_false (sym d ∙ all_bare m i h); apart = λ i k h l d. true_false (sym d ∙ all_bare m i h) }

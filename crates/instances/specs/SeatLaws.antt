@@ -1,22 +1,22 @@
 -- Laws of instances: they are the colours of the graph of those that clash; and a stretch of k slots has no more starts
 -- of a type than instances.
-use Rattle.std.specs.Prelude.{◌≡◌, refl, Bool, true, false, ◌⊎◌, ◌≢◌, List, ℕ, ◌+◌, ◌%◌, ◌≤◌, ◌<◌, eqb, ltb}
+use Rattle.std.specs.Prelude.{◌≡◌, refl, Bool, true, ◌⊎◌, ◌≢◌, List, ℕ, ◌+◌, ◌%◌, ◌≤◌, ◌<◌, eqb, ltb, Option, Some, None, is_some, unwrap_or}
 use Rattle.std.proofs.Common.{sym, ◌∙◌, inl, inr, ⊎_elim, arith, mod-lt, eqb-true, eq-eqb, ltb-true, lt-ltb}
 use Rattle.std.proofs.Math.Path.{ap, subst}
 use Rattle.std.proofs.Math.Bool.{cond}
 use Rattle.std.proofs.Math.Decide.{ℕ_discrete, dec_lt}
-use Rattle.std.proofs.lemmas.Bool.{eqb-false}
 use Rattle.sizes.specs.Sizes.{most_types}
 use Rattle.laws.specs.Tests.{by_test}
 use Rattle.laws.specs.Entry.{vec}
 use Rattle.laws.specs.Says.{Says}
+use Rattle.laws.specs.Z.{true_false}
 use Rattle.laws.specs.Count.{tally, tally_before, tally_same, both_true, both_show}
 use Rattle.laws.specs.Places.{tally_places}
 use Rattle.colouring.specs.Graph.{joins, Graph, Coloured, SomeColouring, FirstColouring}
 use Rattle.held_slots.specs.Held.{Share, off}
 use Rattle.held_slots.specs.HeldLaws.{meet_back, meet_one, off_same, stretch_share}
-use Rattle.held_slots.specs.Seated.{Clash, SeatedIn, near_w}
-use Rattle.instances.specs.Seats.{Clashing, ClashTable, Seatable, FirstFor, FirstSeats, Either, Merge, WithType, Seats, SeatsTo}
+use Rattle.held_slots.specs.Seated.{SeatedIn, near_w}
+use Rattle.instances.specs.Seats.{ClashTable, Seatable, FirstFor, FirstSeats, Merge, WithType, Seats, SeatsTo}
 
 module _ (n : ℕ) (ty : ℕ → ℕ) (l a k r : ℕ) (ha : 0 < a) (t : ℕ → ℕ) (c : List (List Bool)) (z : ClashTable n ty t l k r c) where
   pub clash_graph : Graph n c
@@ -54,22 +54,21 @@ module _ (n : ℕ) (ty : ℕ → ℕ) (l a k r : ℕ) (ha : 0 < a) (t : ℕ → 
     apart = λ i j h m q e. by_test (joins c i j) (λ s. o.apart i j h m s e) (λ s. ((z.row i h).each j m).no s q);
   }
 
-  pub seatable_from : {b : Bool} {w : List ℕ} → SomeColouring n c a b w → Says (Seatable n ty l a k r t) b
-  seatable_from {b} {w} s = record { yes = λ e. (vec w, coloured_seats (vec w) (s.coloured e)); no = λ e q. s.none e (only q.0) (seats_coloured q.0 q.1) }
+  pub seatable_from : (o : Option (List ℕ)) → SomeColouring n c a o → Says (Seatable n ty l a k r t) (is_some o)
+  seatable_from None s = record { yes = λ e. true_false (sym e); no = λ _ q. s (only q.0) (seats_coloured q.0 q.1) }
+  seatable_from (Some w) s = record { yes = λ _. (vec w, coloured_seats (vec w) s); no = λ e. true_false e }
 
-  pub seats_from : {b : Bool} {w : List ℕ} → FirstColouring n c a b w → FirstSeats n ty l a k r t (vec w)
-  seats_from {b} {w} f = record { seated = λ u s. coloured_seats (vec w) (f.coloured (found u s)); first = λ u s. order u (f.first (found u s) (only u) (seats_coloured u s)).case }
+  order : (w u : ℕ → ℕ) → ((v : ℕ) → v < n → w v ≡ only u v) ⊎ ((m : ℕ) × (m < n) × (w m < only u m) × ((v : ℕ) → v < m → w v ≡ only u v)) → FirstFor n ty r w u
+  order w u (inl e) = record { case = inl (λ i h q. e i h ∙ only_in u i q) }
+  order w u (inr x) = at (ℕ_discrete (ty x.0) r)
     where
-      found : (u : ℕ → ℕ) → SeatedIn n ty l a k r t u → b ≡ true
-      found u s = by_test b (λ e. e) (λ e. absurd (f.none e (only u) (seats_coloured u s)))
+      at : Dec (ty x.0 ≡ r) → FirstFor n ty r w u
+      at (yes q) = record { case = inr (x.0, x.1, q, omega (arith, x.2, only_in u x.0 q), λ i h p. x.3 i h ∙ only_in u i p) }
+      at (no q) = absurd (omega (arith, x.2, only_out u x.0 q))
 
-      order : (u : ℕ → ℕ) → ((v : ℕ) → v < n → vec w v ≡ only u v) ⊎ ((m : ℕ) × (m < n) × (vec w m < only u m) × ((v : ℕ) → v < m → vec w v ≡ only u v)) → FirstFor n ty r (vec w) u
-      order u (inl e) = record { case = inl (λ i h q. e i h ∙ only_in u i q) }
-      order u (inr x) = at (ℕ_discrete (ty x.0) r)
-        where
-          at : Dec (ty x.0 ≡ r) → FirstFor n ty r (vec w) u
-          at (yes q) = record { case = inr (x.0, x.1, q, omega (arith, x.2, only_in u x.0 q), λ i h p. x.3 i h ∙ only_in u i p) }
-          at (no q) = absurd (omega (arith, x.2, only_out u x.0 q))
+  pub seats_from : (o : Option (List ℕ)) (d : List ℕ) → FirstColouring n c a o → FirstSeats n ty l a k r t (vec (unwrap_or o d))
+  seats_from None d f = record { seated = λ u s. absurd (f (only u) (seats_coloured u s)); first = λ u s. absurd (f (only u) (seats_coloured u s)) }
+  seats_from (Some w) d f = record { seated = λ u s. coloured_seats (vec w) f.coloured; first = λ u s. order (vec w) u (f.first (only u) (seats_coloured u s)).case }
 
 -- ---- types together
 
@@ -103,20 +102,6 @@ seats_next {n} {ty} {limit} {busy} {l} {m} {t} {u} {out} s w = record { limited 
 pub seats_done : {n : ℕ} {ty limit busy : ℕ → ℕ} {l m : ℕ} {t u : ℕ → ℕ} → SeatsTo n ty limit busy l t u m → most_types ≤ m → Seats n ty limit busy l t u
 seats_done s h = record { limited = λ r l. s.limited r (omega arith); unlimited = s.unlimited }
 
--- ---- the graph, entry by entry
-
-pub clashes_here : {one : Bool} {ci cj xi xj l k r : ℕ} {b : Bool} → one ≡ false → ci ≡ r → cj ≡ r → Says (Share l k xi xj) b → Says (Clashing one ci cj xi xj l k r) b
-clashes_here o p q c = record { yes = λ e. record { different = o; first = p; second = q; share = c.yes e }; no = λ e s. c.no e s.share }
-
-pub clashes_bit : (ty t : ℕ → ℕ) (l k r i j : ℕ) {b : Bool} → Says (Clashing (eqb i j) (ty i) (ty j) (t i) (t j) l k r) b → Says (Clash ty t l k r i j) b
-clashes_bit ty t l k r i j c = record {
-  yes = λ e. let q = c.yes e in record { different = eqb-false i j q.different; first = q.first; second = q.second; share = q.share };
-  no = λ e q. by_test (eqb i j) (λ s. q.different (eqb-true i j s)) (λ s. c.no e (record { different = s; first = q.first; second = q.second; share = q.share }));
-}
-
-pub either_type : (a r : ℕ) {x y z : ℕ} → Either (eqb a r) x y z → (a ≡ r → z ≡ x) × ((a ≡ r → ⊥) → z ≡ y)
-either_type a r e = (λ q. e.yes (eq-eqb a r q), λ q. by_test (eqb a r) (λ s. absurd (q (eqb-true a r s))) (λ s. e.no s))
-
 -- ---- counts
 
 -- a stretch of k slots has no more starts of the type than the type has instances: any two of them hold a slot in
@@ -130,31 +115,31 @@ seated_room n ty l a k r t u hl p s hs = tally_places a n (near_w ty t l r s k) 
 
 -- where an instance is busy for one slot, counts tell all: an operation takes the instance of its rank in its slot
 module _ (n : ℕ) (ty : ℕ → ℕ) (l a r : ℕ) (t : ℕ → ℕ) (hl : 0 < l) where
-  in_slot_lem : ℕ → ℕ → Bool
-  in_slot_lem i = near_w ty t l r (t i % l) 1
+  in_slot : ℕ → ℕ → Bool
+  in_slot i = near_w ty t l r (t i % l) 1
 
   rank : ℕ → ℕ
-  rank i = tally i (in_slot_lem i)
+  rank i = tally i (in_slot i)
 
-  slot_own : (i j : ℕ) → ty j ≡ r → t i % l ≡ t j % l → in_slot_lem i j ≡ true
-  unfolding in_slot_lem
+  slot_own : (i j : ℕ) → ty j ≡ r → t i % l ≡ t j % l → in_slot i j ≡ true
+  unfolding in_slot
   slot_own i j e q = both_show (eqb (ty j) r) (ltb (off l (t i % l) (t j % l)) 1) (eq-eqb (ty j) r e)
       (lt-ltb (off l (t i % l) (t j % l)) 1 (subst (λ (x : ℕ). off l (t i % l) x < 1) q (omega (arith, off_same l (t i % l) (mod-lt (t i) hl)))))
 
   -- of two in one slot the later one has the higher rank
   rank_later : (i j : ℕ) → i < j → ty i ≡ r → t i % l ≡ t j % l → rank i < rank j
-  unfolding rank in_slot_lem
-  rank_later i j h e q = subst (λ (x : ℕ). tally i (in_slot_lem i) < x) (tally_same j (in_slot_lem i) (in_slot_lem j) (λ v _. same v)) (tally_before j i (in_slot_lem i) h (slot_own i i e refl))
+  unfolding rank in_slot
+  rank_later i j h e q = subst (λ (x : ℕ). tally i (in_slot i) < x) (tally_same j (in_slot i) (in_slot j) (λ v _. same v)) (tally_before j i (in_slot i) h (slot_own i i e refl))
     where
-      same : (v : ℕ) → in_slot_lem i v ≡ in_slot_lem j v
+      same : (v : ℕ) → in_slot i v ≡ in_slot j v
       same v = ap (λ (s : ℕ). near_w ty t l r s 1 v) q
 
   pub room_seated : ((i : ℕ) → i < n → ty i ≡ r → tally n (near_w ty t l r (t i % l) 1) ≤ a) → (u : ℕ → ℕ) × SeatedIn n ty l a 1 r t u
-  unfolding in_slot_lem rank
+  unfolding in_slot rank
   room_seated room = (
     rank,
     record {
-      below = λ i h e. omega (arith, tally_before n i (in_slot_lem i) h (slot_own i i e refl), room i h e);
+      below = λ i h e. omega (arith, tally_before n i (in_slot i) h (slot_own i i e refl), room i h e);
       apart = λ i j h m c q. pick i j c.first c.second (meet_one l (t i) (t j) c.share) c.different q (dec_lt i j);
     },
   )

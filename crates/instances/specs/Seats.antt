@@ -1,17 +1,9 @@
 -- Instances for the operations of a type: those that hold a slot in common have different ones.
-use Rattle.std.specs.Prelude.{◌≡◌, Bool, true, false, ◌⊎◌, ◌≢◌, List, ℕ, ◌<◌}
+use Rattle.std.specs.Prelude.{◌≡◌, Bool, ◌⊎◌, ◌≢◌, List, ℕ, ◌<◌}
 use Rattle.sizes.specs.Sizes.{most_types}
 use Rattle.laws.specs.Says.{Says}
 use Rattle.domain.specs.Domain.{has, row_of}
-use Rattle.held_slots.specs.Held.{Share}
 use Rattle.held_slots.specs.Seated.{Clash, SeatedIn}
-
--- two operations of these types and starts clash in type r; `one` where they are one
-pub record Clashing (one : Bool) (ci cj xi xj l k r : ℕ) : Type 0 where
-  pub different : one ≡ false
-  pub first : ci ≡ r
-  pub second : cj ≡ r
-  pub share : Share l k xi xj
 
 -- a row and the table of those that clash
 pub record ClashRow (n : ℕ) (ty t : ℕ → ℕ) (l k r i : ℕ) (row : List Bool) : Type 0 where
@@ -38,11 +30,6 @@ pub record FirstSeats (n : ℕ) (ty : ℕ → ℕ) (l a k r : ℕ) (t w : ℕ �
 pub record Merge (n : ℕ) (ty : ℕ → ℕ) (r : ℕ) (u w out : ℕ → ℕ) : Type 0 where
   pub inside : (i : ℕ) → i < n → ty i ≡ r → out i ≡ w i
   pub outside : (i : ℕ) → i < n → ty i ≢ r → out i ≡ u i
-
--- one number of two
-pub record Either (b : Bool) (x y r : ℕ) : Type 0 where
-  pub yes : b ≡ true → r ≡ x
-  pub no : b ≡ false → r ≡ y
 
 -- u with the first instances in type r, if it is limited
 pub record WithType (n : ℕ) (ty : ℕ → ℕ) (l a k r : ℕ) (t u out : ℕ → ℕ) : Type 0 where

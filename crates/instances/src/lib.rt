@@ -10,170 +10,110 @@ ghost use Rattle.std.specs.Prelude.{◌≡◌, true, false, ℕ, ◌≤◌, ◌<
 ghost use Rattle.sizes.specs.Sizes.{most_operations, most_types, most_instances};
 ghost use Rattle.laws.specs.Entry.{vec};
 ghost use Rattle.laws.specs.Says.{Says};
-ghost use Rattle.instances.specs.Seats.{Clashing, ClashRow, ClashTable, Seatable, FirstSeats, Either, Merge, WithType, Seats};
+ghost use Rattle.held_slots.specs.Seated.{Clash};
+ghost use Rattle.instances.specs.Seats.{ClashRow, ClashTable, Seatable, FirstSeats, Merge, WithType, Seats};
 
 use colouring::{Edges, Marks};
 use sizes::{MOST_OPERATIONS, MOST_TYPES};
 
-// Whether two operations of the types `first` and `second` with the starts t and u are of this type and clash; `one`
-// where they are one.
-fn clash_bit(
-    one: bool,
-    first: usize,
-    second: usize,
-    t: usize,
-    u: usize,
-    interval: usize,
-    busy: usize,
-    kind: usize,
-) -> bool
-    ensures { Says (Clashing one first second t u interval busy kind) result }
+// So many operations, the type and the start of each, and the interval after which their slots come round.
+#[derive(Clone, Copy)]
+pub struct Starts<'a> {
+    pub resource: &'a [usize; MOST_OPERATIONS],
+    pub starts: &'a [usize; MOST_OPERATIONS],
+    pub count: usize,
+    pub interval: usize,
+    ghost count_ok: { count ≤ most_operations },
+}
+
+// A type: its instances (0: unlimited), and the slots that each stays busy.
+#[derive(Clone, Copy)]
+pub struct Kind {
+    pub number: usize,
+    pub limit: usize,
+    pub busy: usize,
+    ghost limit_ok: { limit ≤ most_instances },
+}
+
+// Whether the operations i and j are two of the type, and clash.
+fn clash(ops: Starts, kind: Kind, i: usize, j: usize) -> bool
+    requires { (i < most_operations) × (j < most_operations) }
+    ensures { Says (Clash (vec ops.entry.resource.now) (vec ops.entry.starts.now) ops.entry.interval kind.busy kind.number i j) result }
 {
-    if one {
-        return false;
-    }
-    if first == kind {
-        if second == kind {
-            return held_slots::meet(interval, busy, busy, t, u);
-        }
-    }
-    false
+    let (first, second) = (ops.starts[i], ops.starts[j]);
+    i != j
+        && ops.resource[i] == kind.number
+        && ops.resource[j] == kind.number
+        && held_slots::meet(ops.interval, kind.busy, kind.busy, first, second)
 }
 
 // The operations that clash with i.
-fn clash_row(
-    resource: [usize; MOST_OPERATIONS],
-    starts: [usize; MOST_OPERATIONS],
-    count: usize,
-    interval: usize,
-    busy: usize,
-    kind: usize,
-    i: usize,
-) -> Marks
-    requires { (count ≤ most_operations) × (i < count) }
-    ensures { ClashRow count (vec resource) (vec starts) interval busy kind i result }
+fn clash_row(ops: Starts, kind: Kind, i: usize) -> Marks
+    requires { i < ops.count }
+    ensures { ClashRow ops.entry.count (vec ops.entry.resource.now) (vec ops.entry.starts.now) ops.entry.interval kind.busy kind.number i result }
 {
     let mut row = [false; MOST_OPERATIONS];
-    let mut j: usize = 0;
-    while j < count {
-        row[j] = clash_bit(
-            i == j,
-            resource[i],
-            resource[j],
-            starts[i],
-            starts[j],
-            interval,
-            busy,
-            kind,
-        );
-        j += 1;
+    for j in 0..ops.count {
+        row[j] = clash(ops, kind, i, j);
     }
     row
 }
 
 // The graph of the operations of a type that clash.
-fn clash_table(
-    resource: [usize; MOST_OPERATIONS],
-    starts: [usize; MOST_OPERATIONS],
-    count: usize,
-    interval: usize,
-    busy: usize,
-    kind: usize,
-) -> Edges
-    requires { count ≤ most_operations }
-    ensures { ClashTable count (vec resource) (vec starts) interval busy kind result }
+fn clash_table(ops: Starts, kind: Kind) -> Edges
+    ensures { ClashTable ops.entry.count (vec ops.entry.resource.now) (vec ops.entry.starts.now) ops.entry.interval kind.busy kind.number result }
 {
     let mut c = [[false; MOST_OPERATIONS]; MOST_OPERATIONS];
-    let mut i: usize = 0;
-    while i < count {
-        c[i] = clash_row(resource, starts, count, interval, busy, kind, i);
-        i += 1;
+    for i in 0..ops.count {
+        c[i] = clash_row(ops, kind, i);
     }
     c
 }
 
-// Whether the starts have instances in a type, which has `limit` of them that stay busy for `busy` slots.
-pub fn seatable(
-    resource: [usize; MOST_OPERATIONS],
-    starts: [usize; MOST_OPERATIONS],
-    count: usize,
-    interval: usize,
-    limit: usize,
-    busy: usize,
-    kind: usize,
-) -> bool
-    requires { (count ≤ most_operations) × (0 < limit) × (limit ≤ most_instances) }
-    ensures { Says (Seatable count (vec resource) interval limit busy kind (vec starts)) result }
+// Whether the starts have instances in a type.
+pub fn seatable(ops: Starts, kind: Kind) -> bool
+    requires { 0 < kind.limit }
+    ensures { Says (Seatable ops.entry.count (vec ops.entry.resource.now) ops.entry.interval kind.limit kind.busy kind.number (vec ops.entry.starts.now)) result }
 {
-    let clashes = clash_table(resource, starts, count, interval, busy, kind);
-    let found = colouring::some_colouring(count, clashes, limit);
-    found.yes
+    let clashes = clash_table(ops, kind);
+    colouring::some_colouring(ops.count, &clashes, kind.limit).is_some()
 }
 
 // The first instances for the starts in a type, if they have any.
-fn type_instances(
-    resource: [usize; MOST_OPERATIONS],
-    starts: [usize; MOST_OPERATIONS],
-    count: usize,
-    interval: usize,
-    limit: usize,
-    busy: usize,
-    kind: usize,
-) -> [usize; MOST_OPERATIONS]
-    requires { (count ≤ most_operations) × (0 < limit) × (limit ≤ most_instances) }
-    ensures { FirstSeats count (vec resource) interval limit busy kind (vec starts) (vec result) }
+fn type_instances(ops: Starts, kind: Kind) -> [usize; MOST_OPERATIONS]
+    requires { 0 < kind.limit }
+    ensures { FirstSeats ops.entry.count (vec ops.entry.resource.now) ops.entry.interval kind.limit kind.busy kind.number (vec ops.entry.starts.now) (vec result) }
 {
-    let clashes = clash_table(resource, starts, count, interval, busy, kind);
-    let found = colouring::first_colouring(count, clashes, limit);
-    let w = found.colours;
-    w
-}
-
-fn either(flag: bool, x: usize, y: usize) -> usize
-    ensures { Either flag x y result }
-{
-    if flag { x } else { y }
+    let clashes = clash_table(ops, kind);
+    colouring::first_colouring(ops.count, &clashes, kind.limit).unwrap_or([0; MOST_OPERATIONS])
 }
 
 // `inside` in a type, and `outside` elsewhere.
 fn merge(
-    resource: [usize; MOST_OPERATIONS],
-    outside: [usize; MOST_OPERATIONS],
-    inside: [usize; MOST_OPERATIONS],
-    count: usize,
+    ops: Starts,
+    outside: &[usize; MOST_OPERATIONS],
+    inside: &[usize; MOST_OPERATIONS],
     kind: usize,
 ) -> [usize; MOST_OPERATIONS]
-    requires { count ≤ most_operations }
-    ensures { Merge count (vec resource) kind (vec outside) (vec inside) (vec result) }
+    ensures { Merge ops.entry.count (vec ops.entry.resource.now) kind (vec outside.now) (vec inside.now) (vec result) }
 {
-    let mut out = outside;
-    let mut i: usize = 0;
-    while i < count {
-        out[i] = either(resource[i] == kind, inside[i], outside[i]);
-        i += 1;
+    let mut out = *outside;
+    for i in 0..ops.count {
+        if ops.resource[i] == kind {
+            out[i] = inside[i];
+        }
     }
     out
 }
 
 // The instances `before` with the first ones in a type, if it is limited.
-fn with_type(
-    resource: [usize; MOST_OPERATIONS],
-    starts: [usize; MOST_OPERATIONS],
-    before: [usize; MOST_OPERATIONS],
-    count: usize,
-    interval: usize,
-    limit: usize,
-    busy: usize,
-    kind: usize,
-) -> [usize; MOST_OPERATIONS]
-    requires { (count ≤ most_operations) × (limit ≤ most_instances) }
-    ensures { WithType count (vec resource) interval limit busy kind (vec starts) (vec before) (vec result) }
+fn with_type(ops: Starts, before: &[usize; MOST_OPERATIONS], kind: Kind) -> [usize; MOST_OPERATIONS]
+    ensures { WithType ops.entry.count (vec ops.entry.resource.now) ops.entry.interval kind.limit kind.busy kind.number (vec ops.entry.starts.now) (vec before.now) (vec result) }
 {
-    if limit == 0 {
-        return before;
+    if kind.limit == 0 {
+        return *before;
     }
-    let inside = type_instances(resource, starts, count, interval, limit, busy, kind);
-    merge(resource, before, inside, count, kind)
+    merge(ops, before, &type_instances(ops, kind), kind.number)
 }
 
 // The first instances for the starts, if they have any; 0 in an unlimited type. Left free: those of a limited type in
@@ -190,21 +130,20 @@ pub fn instances(
     requires { (count ≤ most_operations) × ((kind : ℕ) → kind < most_types → vec limits kind ≤ most_instances) }
     ensures { Seats count (vec resource) (vec limits) (vec busy) interval (vec starts) (vec result) }
 {
+    let ops = Starts {
+        resource: &resource,
+        starts: &starts,
+        count,
+        interval,
+    };
     let mut u = [0usize; MOST_OPERATIONS];
-    let mut kind: usize = 0;
-    while kind < MOST_TYPES {
-        let next = with_type(
-            resource,
-            starts,
-            u,
-            count,
-            interval,
-            limits[kind],
-            busy[kind],
-            kind,
-        );
-        u = next;
-        kind += 1;
+    for number in 0..MOST_TYPES {
+        let kind = Kind {
+            number,
+            limit: limits[number],
+            busy: busy[number],
+        };
+        u = with_type(ops, &u, kind);
     }
     u
 }

@@ -1,11 +1,9 @@
 -- What a plan's starts keep, for a task: a lag for each pair of operations, and types with their instances, which stay
 -- busy for some slots.
-use Rattle.std.specs.Prelude.{◌≡◌, Bool, true, false, cond, List, ℕ, ◌+◌, ◌*◌, ◌%◌, ◌≤◌, ◌<◌, eqb, ltb, ℤ, pos, negsuc, ◌+ℤ◌, ◌≤ℤ◌, get_or}
-use Rattle.std.specs.Int.Signed.{le_z}
+use Rattle.std.specs.Prelude.{◌≡◌, Bool, true, false, List, ℕ, ◌+◌, ◌*◌, ◌%◌, ◌≤◌, ◌<◌, ℤ, pos, negsuc, ◌+ℤ◌, ◌≤ℤ◌, get_or}
 use Rattle.sizes.specs.Sizes.{most_operations, most_types, most_instances, most_busy, most_starts, most_intervals}
 use Rattle.laws.specs.Entry.{vec}
-use Rattle.laws.specs.Count.{bit, tally}
-use Rattle.held_slots.specs.Held.{off}
+use Rattle.laws.specs.Count.{tally}
 use Rattle.held_slots.specs.Seated.{SeatedIn, near_w}
 use Rattle.task.specs.declared.Task.{Task}
 
@@ -30,17 +28,9 @@ lag_of p i j = lag_at p.lag i j
 abbrev pub busy_of : Task → ℕ → ℕ
 busy_of p r = get_or p.busy r 0
 
--- 1 where an operation of this type and start is of type r, and its slot less than k after slot s; else 0
-abbrev pub bit_of : ℕ → ℕ → ℕ → ℕ → ℕ → ℕ → ℕ
-bit_of type start l r s k = bit (cond (eqb type r) (ltb (off l s (start % l)) k) false)
-
 -- the starts t and the instances u keep the rules of type r
 abbrev pub SeatedFor : Task → ℕ → (ℕ → ℕ) → (ℕ → ℕ) → Type 0
 SeatedFor p r t u = SeatedIn p.ops (type_of p) p.interval (instances_of p r) (busy_of p r) r t u
-
--- starts a and b keep the lag z
-abbrev pub meets_z : ℕ → ℤ → ℕ → Bool
-meets_z a z b = le_z (pos a +ℤ z) (pos b)
 
 -- the starts t of n operations keep each lag from operation i
 abbrev pub LagsFrom : ℕ → List ℤ → (ℕ → ℕ) → ℕ → Type 0

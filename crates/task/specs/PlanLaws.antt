@@ -1,18 +1,18 @@
 -- Laws of a plan's starts: only those of the operations matter, and a stretch of as many slots as a type stays busy has
 -- no more starts of it than the type has instances; with one slot that is all that is asked of the type.
-use Rattle.std.specs.Prelude.{◌≡◌, refl, Bool, true, false, cond, List, ℕ, ◌%◌, ◌≤◌, ◌<◌, pos, ◌+ℤ◌, ◌≤ℤ◌, eqb}
-use Rattle.std.proofs.Common.{sym, subst, arith, mod-lt, eq-eqb, ne_eqb, lt-ltb, le-ltb}
+use Rattle.std.specs.Prelude.{◌≡◌, refl, Bool, true, false, List, ℕ, ◌+◌, ◌%◌, ◌≤◌, ◌<◌, pos, ◌+ℤ◌, ◌≤ℤ◌}
+use Rattle.std.proofs.Common.{sym, ap, ◌∙◌, subst, arith, mod-lt}
 use Rattle.std.proofs.Math.Decide.{dec_lt}
+use Rattle.std.specs.Int.{from_bool}
 use Rattle.sizes.specs.Sizes.{most_types}
 use Rattle.laws.specs.Entry.{vec}
 use Rattle.laws.specs.Says.{Says}
-use Rattle.laws.specs.Count.{bit, tally}
-use Rattle.held_slots.specs.Held.{off}
+use Rattle.laws.specs.Count.{bit, tally, tally_none, tally_more}
 use Rattle.held_slots.specs.Seated.{SeatedIn, near_w}
 use Rattle.instances.specs.Seats.{Seatable}
 use Rattle.instances.specs.SeatLaws.{seated_room, seated_local, room_seated}
 use Rattle.task.specs.declared.Task.{Task}
-use Rattle.task.specs.Plan.{PlanOf, TaskOk, type_of, instances_of, busy_of, lag_of, in_stretch, Overfull, Roomy, TypeSeated, bit_of}
+use Rattle.task.specs.Plan.{PlanOf, TaskOk, type_of, instances_of, busy_of, lag_of, in_stretch, Overfull, Roomy, TypeSeated}
 
 module _ (p : Task) (ok : TaskOk p) where
   pub plan_local : (s t : ℕ → ℕ) → ((i : ℕ) → i < p.ops → s i ≡ t i) → PlanOf p s → PlanOf p t
@@ -60,17 +60,13 @@ type_seated p x r n s = record { yes = λ e _. s.yes e; no = λ e h. s.no e (h (
         pick (yes h) = h
         pick (no h) = absurd (n (omega arith))
 
--- the count of one operation
-module _ (type start l r s k : ℕ) where
-  pub bit_near : {o : ℕ} → type ≡ r → o ≡ off l s (start % l) → o < k → 1 ≡ bit_of type start l r s k
-  bit_near e q h = let w : off l s (start % l) < k = omega (arith, q) in rw (eq-eqb type r e, lt-ltb (off l s (start % l)) k w)
+-- a count of flags, one index after the other
+pub tally_start : (f : ℕ → Bool) → tally 0 f ≡ 0
+tally_start f = tally_none f
 
-  pub bit_far : {o : ℕ} → o ≡ off l s (start % l) → k ≤ o → 0 ≡ bit_of type start l r s k
-  bit_far q h = let w : k ≤ off l s (start % l) = omega (arith, q) in rw (le-ltb (off l s (start % l)) k w) (none (eqb type r))
-    where
-      none : (b : Bool) → 0 ≡ bit (cond b false false)
-      none true = refl
-      none false = refl
-
-  pub bit_other : (type ≡ r → ⊥) → 0 ≡ bit_of type start l r s k
-  bit_other n = rw (ne_eqb type r n)
+pub tally_next : (k : ℕ) (f : ℕ → Bool) → tally (k + 1) f ≡ tally k f + from_bool (f k)
+tally_next k f = tally_more k f ∙ ap (λ (z : ℕ). tally k f + z) (same (f k))
+  where
+    same : (b : Bool) → bit b ≡ from_bool b
+    same true = refl
+    same false = refl

@@ -5,14 +5,15 @@
 // task comes from schedule::plan_at, which proves `TaskOk` from the sheet, or from `relax`, which makes it from that one.
 #![tactic(auto)]
 
-ghost use Rattle.std.specs.Prelude.{◌≡◌, true, false, ℕ, ◌≤◌, ◌<◌, eqb};
+ghost use Rattle.std.specs.Prelude.{◌≡◌, true, false, ℕ, ◌≤◌, ◌<◌, eqb, pos, ◌+ℤ◌, ◌≤ℤ◌};
 ghost use Rattle.sizes.specs.Sizes.{most_operations, most_types, most_starts};
 ghost use Rattle.laws.specs.Entry.{vec};
 ghost use Rattle.laws.specs.Says.{Says};
-ghost use Rattle.laws.specs.Count.{bit, tally};
+ghost use Rattle.laws.specs.Count.{tally};
 ghost use Rattle.held_slots.specs.Seated.{near_w};
-ghost use Rattle.task.specs.Plan.{SmallLag, LagsSmall, LagsFrom, LagsKept, PlanOf, TaskOk, Small, Overfull, RoomKept, Roomy, TypeSeated, Seated, meets_z, bit_of};
+ghost use Rattle.task.specs.Plan.{SmallLag, LagsFrom, LagsKept, PlanOf, TaskOk, Small, Overfull, RoomKept, Roomy, TypeSeated, Seated, type_of, instances_of, busy_of, in_stretch};
 
+use instances::{Kind, Starts};
 use sizes::{MOST_OPERATIONS, MOST_TYPES};
 
 // Pairs of operations: a lag for each, row by row.
@@ -39,23 +40,19 @@ pub struct Task {
 // Whether two starts keep a lag.
 fn meets(from: usize, lag: i32, to: usize) -> bool
     requires { (from < most_starts) × (to < most_starts) × SmallLag lag }
-    ensures { result ≡ meets_z from lag to }
+    ensures { Says ((pos from +ℤ lag) ≤ℤ pos to) result }
 {
     from as i32 + lag <= to as i32
 }
 
-// Whether the starts keep each lag from operation i. The tables are lent here and below, as a task is copied where it is
-// handed over.
-fn lags_from(lag: &[i32; PAIRS], starts: &[usize; MOST_OPERATIONS], ops: usize, i: usize) -> bool
-    requires { (ops ≤ most_operations) × (i < ops) × LagsSmall ops lag.now × Small ops starts.now }
-    ensures { Says (LagsFrom ops lag.now (vec starts.now) i) result }
+// Whether the starts keep each lag from operation i. The task is lent here and below, as it is copied where it is handed
+// over.
+fn lags_from(p: &Task, starts: &[usize; MOST_OPERATIONS], i: usize) -> bool
+    requires { TaskOk p.now × Small p.now.ops starts.now × (i < p.now.ops) }
+    ensures { Says (LagsFrom p.now.ops p.now.lag (vec starts.now) i) result }
 {
-    let mut j: usize = 0;
-    while j < ops {
-        let there = i * MOST_OPERATIONS + j;
-        if meets(starts[i], lag[there], starts[j]) {
-            j += 1;
-        } else {
+    for j in 0..p.ops {
+        if !meets(starts[i], p.lag[i * MOST_OPERATIONS + j], starts[j]) {
             return false;
         }
     }
@@ -63,149 +60,105 @@ fn lags_from(lag: &[i32; PAIRS], starts: &[usize; MOST_OPERATIONS], ops: usize, 
 }
 
 // Whether the starts keep every lag.
-fn lags_kept(lag: &[i32; PAIRS], starts: &[usize; MOST_OPERATIONS], ops: usize) -> bool
-    requires { (ops ≤ most_operations) × LagsSmall ops lag.now × Small ops starts.now }
-    ensures { Says (LagsKept ops lag.now (vec starts.now)) result }
+fn lags_kept(p: &Task, starts: &[usize; MOST_OPERATIONS]) -> bool
+    requires { TaskOk p.now × Small p.now.ops starts.now }
+    ensures { Says (LagsKept p.now.ops p.now.lag (vec starts.now)) result }
 {
-    let mut i: usize = 0;
-    while i < ops {
-        if lags_from(lag, starts, ops, i) {
-            i += 1;
-        } else {
+    for i in 0..p.ops {
+        if !lags_from(p, starts, i) {
             return false;
         }
     }
     true
 }
 
-// 1 if an operation of this type and start is of type `kind` and starts less than `busy` after the slot.
-fn near_bit(
-    resource: usize,
-    start: usize,
-    interval: usize,
-    kind: usize,
-    slot: usize,
-    busy: usize,
-) -> usize
-    requires { (0 < interval) × (slot < interval) }
-    ensures { (result ≡ bit_of resource start interval kind slot busy) × (result ≤ 1) }
+// Whether operation i is of the type `kind` and starts less slots after this one than the type stays busy.
+fn near(p: &Task, starts: &[usize; MOST_OPERATIONS], kind: usize, slot: usize, i: usize) -> bool
+    requires { (slot < p.now.interval) × (kind < most_types) × (i < most_operations) }
+    ensures { result ≡ near_w (type_of p.now) (vec starts.now) p.now.interval kind slot (busy_of p.now kind) i }
 {
-    if resource == kind {
-        if held_slots::offset(interval, slot, start % interval) < busy {
-            return 1;
-        }
-    }
-    0
+    p.resource[i] == kind
+        && held_slots::offset(p.interval, slot, starts[i] % p.interval) < p.busy[kind]
 }
 
-// How many operations of a type start less than `busy` after the slot.
-fn crowd(
-    resource: &[usize; MOST_OPERATIONS],
-    starts: &[usize; MOST_OPERATIONS],
-    count: usize,
-    interval: usize,
-    kind: usize,
-    slot: usize,
-    busy: usize,
-) -> usize
-    requires { (0 < interval) × (slot < interval) × (count ≤ most_operations) }
-    ensures { result ≡ tally count (near_w (vec resource.now) (vec starts.now) interval kind slot busy) }
+// How many operations of a type start less slots after this one than the type stays busy.
+#[tactic(auto, using(crate::specs::PlanLaws::tally_next, crate::specs::PlanLaws::tally_start))]
+fn crowd(p: &Task, starts: &[usize; MOST_OPERATIONS], kind: usize, slot: usize) -> usize
+    requires { (slot < p.now.interval) × (kind < most_types) × (p.now.ops ≤ most_operations) }
+    ensures { result ≡ tally p.now.ops (near_w (type_of p.now) (vec starts.now) p.now.interval kind slot (busy_of p.now kind)) }
 {
-    let mut c: usize = 0;
-    let mut i: usize = 0;
-    while i < count {
-        c += near_bit(resource[i], starts[i], interval, kind, slot, busy);
-        i += 1;
+    let mut c = 0;
+    for i in 0..p.ops {
+        c += usize::from(near(p, starts, kind, slot, i));
     }
     c
 }
 
-// Whether so many operations in one stretch are too many for a type with `limit` instances; 0 is unlimited.
-fn over(limit: usize, count: usize) -> bool
-    ensures { Says ((0 < limit) × (limit < count)) result }
-{
-    if 0 < limit { limit < count } else { false }
-}
-
 // Whether the stretch of as many slots as the type of operation i stays busy, from its start on, has more starts of the
-// type than instances.
-fn overfull(
-    resource: &[usize; MOST_OPERATIONS],
-    instances: &[usize; MOST_TYPES],
-    busy: &[usize; MOST_TYPES],
-    starts: &[usize; MOST_OPERATIONS],
-    ops: usize,
-    interval: usize,
-    i: usize,
-) -> bool
-    requires { (0 < interval) × (ops ≤ most_operations) × (i < ops) }
-    ensures { Says (Overfull ops (vec resource.now) (vec instances.now) (vec busy.now) interval (vec starts.now) i) result }
+// type than instances; a type with 0 instances is unlimited.
+fn overfull(p: &Task, starts: &[usize; MOST_OPERATIONS], i: usize) -> bool
+    requires { TaskOk p.now × (i < p.now.ops) }
+    ensures { Says (Overfull p.now.ops (type_of p.now) (instances_of p.now) (busy_of p.now) p.now.interval (vec starts.now) i) result }
 {
-    let kind = resource[i];
+    let kind = p.resource[i];
     if MOST_TYPES <= kind {
         return false;
     }
-    let slot = starts[i] % interval;
-    let c = crowd(resource, starts, ops, interval, kind, slot, busy[kind]);
-    over(instances[kind], c)
+    let limit = p.instances[kind];
+    let count = crowd(p, starts, kind, starts[i] % p.interval);
+    0 < limit && limit < count
 }
 
 // Whether no stretch of as many slots as a type stays busy has more starts of it than the type has instances, as far as
 // the stretches from each start on tell. Where one has, there is no need to look for instances.
-fn room_kept(p: Task, starts: [usize; MOST_OPERATIONS]) -> bool
-    requires { TaskOk p }
-    ensures { RoomKept p (vec starts) result }
+fn room_kept(p: &Task, starts: &[usize; MOST_OPERATIONS]) -> bool
+    requires { TaskOk p.now }
+    ensures { RoomKept p.now (vec starts.now) result }
 {
-    let resource = p.resource;
-    let instances = p.instances;
-    let busy = p.busy;
-    let ops = p.ops;
-    let interval = p.interval;
-    let mut i: usize = 0;
-    while i < ops {
-        if overfull(&resource, &instances, &busy, &starts, ops, interval, i) {
+    for i in 0..p.ops {
+        if overfull(p, starts, i) {
             return false;
         }
-        i += 1;
     }
     true
 }
 
 // Whether the starts have instances in a type, if it is limited. Where it stays busy for one slot, there is one for each
 // as no stretch has too many.
-#[tactic(auto, using(crate::specs::PlanLaws::one_seated))]
-fn type_seated(p: Task, starts: [usize; MOST_OPERATIONS], kind: usize) -> bool
-    requires { TaskOk p × Roomy p (vec starts) × (kind < most_types) }
-    ensures { Says (TypeSeated p kind (vec starts)) result }
+#[tactic(auto, using(crate::specs::PlanLaws::one_seated, crate::specs::PlanLaws::type_seated))]
+fn type_seated(p: &Task, starts: &[usize; MOST_OPERATIONS], kind: usize) -> bool
+    requires { TaskOk p.now × Roomy p.now (vec starts.now) × (kind < most_types) }
+    ensures { Says (TypeSeated p.now kind (vec starts.now)) result }
 {
-    if p.instances[kind] == 0 {
+    let limit = p.instances[kind];
+    let busy = p.busy[kind];
+    if limit == 0 || busy == 1 {
         return true;
     }
-    if p.busy[kind] == 1 {
-        return true;
-    }
-    let resource = p.resource;
-    instances::seatable(
-        resource,
+    let ops = Starts {
+        resource: &p.resource,
         starts,
-        p.ops,
-        p.interval,
-        p.instances[kind],
-        p.busy[kind],
-        kind,
+        count: p.ops,
+        interval: p.interval,
+    };
+    let number = kind;
+    instances::seatable(
+        ops,
+        Kind {
+            number,
+            limit,
+            busy,
+        },
     )
 }
 
 // Whether the starts have instances in each limited type.
-fn seated(p: Task, starts: [usize; MOST_OPERATIONS]) -> bool
-    requires { TaskOk p × Roomy p (vec starts) }
-    ensures { Says (Seated p (vec starts)) result }
+fn seated(p: &Task, starts: &[usize; MOST_OPERATIONS]) -> bool
+    requires { TaskOk p.now × Roomy p.now (vec starts.now) }
+    ensures { Says (Seated p.now (vec starts.now)) result }
 {
-    let mut kind: usize = 0;
-    while kind < MOST_TYPES {
-        if type_seated(p, starts, kind) {
-            kind += 1;
-        } else {
+    for kind in 0..MOST_TYPES {
+        if !type_seated(p, starts, kind) {
             return false;
         }
     }
@@ -217,35 +170,18 @@ pub fn is_plan(p: Task, starts: [usize; MOST_OPERATIONS]) -> bool
     requires { TaskOk p × Small p.ops starts }
     ensures { Says (PlanOf p (vec starts)) result }
 {
-    let lag = p.lag;
-    if lags_kept(&lag, &starts, p.ops) {
-        if room_kept(p, starts) {
-            return seated(p, starts);
-        }
-    }
-    false
-}
-
-// 1 for an operation of the type.
-fn of_type(resource: usize, kind: usize) -> usize
-    ensures { (result ≡ bit (eqb resource kind)) × (result ≤ 1) }
-{
-    if resource == kind {
-        return 1;
-    }
-    0
+    lags_kept(&p, &starts) && room_kept(&p, &starts) && seated(&p, &starts)
 }
 
 // How many operations are of the type.
+#[tactic(auto, using(crate::specs::PlanLaws::tally_next, crate::specs::PlanLaws::tally_start))]
 pub fn count_of(resource: &[usize; MOST_OPERATIONS], count: usize, kind: usize) -> usize
     requires { count ≤ most_operations }
     ensures { (result ≡ tally count (λ i. eqb (vec resource.now i) kind)) × (result ≤ most_operations) }
 {
-    let mut c: usize = 0;
-    let mut i: usize = 0;
-    while i < count {
-        c += of_type(resource[i], kind);
-        i += 1;
+    let mut c = 0;
+    for i in 0..count {
+        c += usize::from(resource[i] == kind);
     }
     c
 }

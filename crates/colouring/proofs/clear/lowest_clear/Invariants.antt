@@ -1,0 +1,6 @@
+use Rattle.std.proofs.Common.{ℕ, ◌<◌}
+use Rattle.colouring.specs.Parts.{Clear}
+use Rattle.colouring.proofs.clear.lowest_clear.Given as goal
+
+abbrev pub invariant-loop-v : goal.invariant-loop-v
+invariant-loop-v l = (x : ℕ) → x < l.v → Clear l.count l.edges l.done l.colours l.node x → ⊥

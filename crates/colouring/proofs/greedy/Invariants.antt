@@ -1,0 +1,8 @@
+use Rattle.std.proofs.Common.{◌≡◌, length}
+use Rattle.sizes.specs.Sizes.{most_operations}
+use Rattle.colouring.specs.Graph.{Graph}
+use Rattle.colouring.specs.Laws.{Lead}
+use Rattle.colouring.proofs.greedy.Given as goal
+
+abbrev pub invariant-loop-k : goal.invariant-loop-k
+invariant-loop-k l = (length l.done ≡ most_operations) × (length l.colours ≡ most_operations) × ((g : Graph l.count l.edges) → Lead l.count l.edges l.limit g l.done l.colours l.k)

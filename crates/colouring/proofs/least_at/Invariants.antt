@@ -1,0 +1,5 @@
+use Rattle.colouring.specs.Parts.{Left}
+use Rattle.colouring.proofs.least_at.Given as goal
+
+abbrev pub invariant-loop-colour : goal.invariant-loop-colour
+invariant-loop-colour l = Left l.count l.edges l.limit l.done l.colours l.node l.colour
