@@ -7,6 +7,7 @@ use Rattle.laws.specs.Entry.{vec}
 use Rattle.laws.specs.Each.{each, each_length, each_more}
 use Rattle.text.specs.Sizes.{most_values, greatest_number}
 use Rattle.text.specs.Text.{line_text}
+use Rattle.text.specs.declared.Key.{Key}
 use Rattle.text.specs.declared.Line as made
 use Rattle.text.specs.Line.{key_of, text_of}
 use Rattle.text.specs.Lines.{Line, line_text_of, lines_text, count_line}
@@ -66,7 +67,7 @@ pub added : {ls r : Lines} {want : List Line} → Shows ls want → length want 
 added {want = want} s h l x w e q = subst (λ (y : Lines). Shows y (want ++ (x ∷ []))) (sym q) (more s h l x w e)
 
 -- a line with one number that a line can have
-pub one : (key n : ℕ) (l : made.Line) → n ≤ greatest_number → text_of l ≡ line_text (key_of key) (pos (min n greatest_number) ∷ []) → text_of l ≡ line_text_of (count_line (key_of key) n)
+pub one : (key : Key) (n : ℕ) (l : made.Line) → n ≤ greatest_number → text_of l ≡ line_text (key_of key) (pos (min n greatest_number) ∷ []) → text_of l ≡ line_text_of (count_line (key_of key) n)
 one key n l h e = one_number (key_of key) n h e
 
 -- ---- one line for each operation

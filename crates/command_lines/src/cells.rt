@@ -14,7 +14,7 @@ use crate::parts::headed;
 use dependence::NO_WALK;
 use lines::Lines;
 use sizes::MOST_OPERATIONS;
-use text::{Line, NO_NUMBER};
+use text::{Key, Line, NO_NUMBER};
 
 // A cell of the table as a value of a line.
 fn cell_value(sum: i32) -> i32
@@ -36,7 +36,7 @@ fn row_line(row: [i32; MOST_OPERATIONS], count: usize) -> Line
         values[i] = cell_value(row[i]);
     }
     Line {
-        key: text::ROW,
+        key: Key::Row,
         count,
         values,
     }

@@ -10,6 +10,7 @@ ghost use Rattle.command_lines.specs.Shows.{Shows, Printable, Sized};
 
 use lines::Lines;
 use sizes::MOST_OPERATIONS;
+use text::Key;
 
 // The answer to question 5: the dependences cannot be met.
 pub const INFEASIBLE: usize = 5;
@@ -19,7 +20,7 @@ pub fn alone(answer: usize) -> Lines
     requires { answer ≤ greatest_number }
     ensures { Shows result (answer_line answer ∷ []) }
 {
-    lines::with(lines::none(), text_line::count_line(text::ANSWER, answer))
+    lines::with(lines::none(), text_line::count_line(Key::Answer, answer))
 }
 
 // The lines `answer=` and `interval=`.
@@ -29,7 +30,7 @@ pub fn headed(answer: usize, interval: usize) -> Lines
 {
     lines::with(
         alone(answer),
-        text_line::count_line(text::INTERVAL, interval),
+        text_line::count_line(Key::Interval, interval),
     )
 }
 
@@ -38,7 +39,7 @@ pub fn looped(ls: Lines, count: usize, edges: [usize; MOST_OPERATIONS]) -> Lines
     requires { (ls.count + 1 ≤ most_lines) × Printable edges }
     ensures { (want : List Line) → Shows ls want → Shows result (want ++ (loop_line (take count edges) ∷ [])) }
 {
-    lines::with(ls, lines::numbers_line(text::LOOP, count, edges))
+    lines::with(ls, lines::numbers_line(Key::Loop, count, edges))
 }
 
 // An answer other than 0 at an interval: with 5 the interval and the loop, else its number alone.
@@ -70,11 +71,11 @@ pub fn denied(answer: usize, count: usize, edges: [usize; MOST_OPERATIONS]) -> L
 }
 
 // A bound after other lines: its answer and, where that is 0, its value under the key.
-pub fn bound(ls: Lines, key: usize, answer: usize, value: usize) -> Lines
+pub fn bound(ls: Lines, key: Key, answer: usize, value: usize) -> Lines
     requires { (ls.count + 2 ≤ most_lines) × (answer ≤ greatest_number) × (value ≤ greatest_number) }
     ensures { (want : List Line) → Shows ls want → Shows result (want ++ bound_lines (key_of key) answer value) }
 {
-    let answered = lines::with(ls, text_line::count_line(text::ANSWER, answer));
+    let answered = lines::with(ls, text_line::count_line(Key::Answer, answer));
     if answer != 0 {
         return answered;
     }

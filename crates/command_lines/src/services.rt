@@ -14,6 +14,7 @@ use crate::{cells, parts};
 use lines::Lines;
 use sheet::Sheet;
 use sizes::MOST_OPERATIONS;
+use text::Key;
 use words::Command;
 
 // The recurrence bound, then the resource bound.
@@ -24,12 +25,12 @@ pub fn bounds(sheet: Sheet) -> Lines
     let recurrence = timing::recurrence_bound(sheet);
     let first = parts::bound(
         lines::none(),
-        text::RECURRENCE,
+        Key::Recurrence,
         recurrence.answer,
         recurrence.value,
     );
     let resource = plan::resource_bound(sheet);
-    parts::bound(first, text::RESOURCE, resource.answer, resource.value)
+    parts::bound(first, Key::Resource, resource.answer, resource.value)
 }
 
 // The answer 0, the interval, and a start for each operation.
@@ -39,7 +40,7 @@ fn start_lines(ops: usize, interval: usize, starts: [usize; MOST_OPERATIONS]) ->
 {
     let mut ls = parts::headed(0, interval);
     for i in 0..ops {
-        ls = lines::with(ls, text_line::count_line(text::START, starts[i]));
+        ls = lines::with(ls, text_line::count_line(Key::Start, starts[i]));
     }
     ls
 }

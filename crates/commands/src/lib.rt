@@ -11,7 +11,7 @@ ghost use Rattle.command_lines.specs.Shows.{Shows};
 
 use lines::Lines;
 use sheet::Sheet;
-use text::Written;
+use text::{Key, Written};
 use words::Command;
 
 mod orders; // orders.rt: the lines of a slot order
@@ -59,7 +59,7 @@ fn refusal_lines(command: Command, refusal: usize, line: usize) -> Lines
 {
     let alone = command_lines::alone(refusal);
     match command {
-        Command::Check => lines::with(alone, text_line::count_line(text::LINE, line)),
+        Command::Check => lines::with(alone, text_line::count_line(Key::Line, line)),
         _ => alone,
     }
 }

@@ -5,6 +5,7 @@ ghost use Rattle.command_lines.specs.Prints.{Serves};
 
 use lines::Lines;
 use sheet::Sheet;
+use text::Key;
 use words::Command;
 
 // The slot order of a pair, or why there is none.
@@ -15,7 +16,7 @@ pub fn order(sheet: Sheet, interval: usize, pair: usize) -> Lines
     let found = slot_order::slot_order(sheet, interval, pair);
     if found.answer == 0 {
         let answered = command_lines::alone(found.answer);
-        return lines::with(answered, text_line::count_line(text::ORDER, found.order));
+        return lines::with(answered, text_line::count_line(Key::Order, found.order));
     }
     let edges = found.loop_edges;
     command_lines::denied(found.answer, found.loop_length, edges)

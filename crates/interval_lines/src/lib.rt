@@ -17,7 +17,7 @@ ghost use Rattle.interval_lines.specs.Small.{SmallAnswer, SmallList};
 use plan::PlanAnswer;
 use sheet::Sheet;
 use sizes::MOST_OPERATIONS;
-use text::{Line, Written};
+use text::{Key, Line, Written};
 
 // The answer and the interval come first.
 const HEAD_LINES: usize = 2;
@@ -26,7 +26,7 @@ fn at_line(t: usize, u: usize) -> Line
     requires { (t ≤ three_digits) × (u ≤ three_digits) }
     ensures { text_of result ≡ line_text_of (at_line t u) }
 {
-    text_line::line_of(text::AT, 2, t as i32, u as i32, 0, 0)
+    text_line::line_of(Key::At, &[t as i32, u as i32])
 }
 
 // The loop: its first `count` edges.
@@ -34,7 +34,7 @@ fn loop_line(edges: [usize; MOST_OPERATIONS], count: usize) -> Line
     requires { SmallList edges }
     ensures { text_of result ≡ line_text_of (loop_line (take count edges)) }
 {
-    lines::numbers_line(text::LOOP, count, edges)
+    lines::numbers_line(Key::Loop, count, edges)
 }
 
 fn line_at(s: Sheet, interval: usize, a: PlanAnswer, i: usize) -> Line
@@ -42,10 +42,10 @@ fn line_at(s: Sheet, interval: usize, a: PlanAnswer, i: usize) -> Line
     ensures { text_of result ≡ line_text_of (get_or (interval_lines s interval a) i no_line) }
 {
     if i == 0 {
-        return text_line::count_line(text::ANSWER, a.answer);
+        return text_line::count_line(Key::Answer, a.answer);
     }
     if i == 1 {
-        return text_line::count_line(text::INTERVAL, interval);
+        return text_line::count_line(Key::Interval, interval);
     }
     if a.answer == 5 {
         let edges = a.loop_edges;

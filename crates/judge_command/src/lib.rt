@@ -4,7 +4,7 @@
 
 ghost use Rattle.judge_command.specs.Prints.{Examined, Answered};
 
-use text::Written;
+use text::{Key, Written};
 
 // Room for what is printed: the line `answer=` with a number of at most three digits.
 pub const ROOM: usize = 11;
@@ -41,6 +41,6 @@ pub fn answer(bytes: &[u8], given: &[u8], out: &mut [u8]) -> Written
     ensures { Answered bytes.now given.now out.old result out.new }
 {
     let found = examine(bytes, given);
-    let line = text_line::count_line(text::ANSWER, found.answer);
+    let line = text_line::count_line(Key::Answer, found.answer);
     lines::put(out, lines::with(lines::none(), line))
 }

@@ -2,6 +2,7 @@
 use Rattle.std.specs.Prelude.{ℕ, ◌+◌, min, cond, ltb, ℤ, pos, take, set, replicate}
 use mathlib.Core.List.{List, flat_map}
 use Rattle.sizes.specs.Sizes.{most_operations}
+use Rattle.text.specs.declared.Key.TheVariants.{Horizon}
 use Rattle.text.specs.declared.Line.{Line}
 use Rattle.text.specs.Line.{text_of}
 use Rattle.text.specs.Sizes.{most_values, greatest_number}
@@ -17,7 +18,7 @@ shown ls = flat_map text_of (take ls.count ls.lines)
 
 -- what stands past the lines of a new list
 abbrev pub blank : Line
-blank = record { key = 0; count = 0; values = replicate most_values (pos 0) }
+blank = record { key = Horizon; count = 0; values = replicate most_values (pos 0) }
 
 -- no line
 unfoldable pub no_lines : Lines

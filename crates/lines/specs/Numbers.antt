@@ -6,6 +6,7 @@ use Rattle.std.proofs.Math.Nat.{min-eq_left}
 use Rattle.std.proofs.lemmas.List.{length-map}
 use Rattle.std.proofs.Math.ListN.{get_or-map}
 use Rattle.sizes.specs.Sizes.{most_operations}
+use Rattle.text.specs.declared.Key.{Key}
 use Rattle.text.specs.Sizes.{most_values, greatest_number}
 use Rattle.text.specs.Text.{line_text}
 use Rattle.text.specs.Line.{key_of, text_of}
@@ -23,7 +24,7 @@ take_map (suc n) [] = refl
 take_map (suc n) (k ∷ ns) = ap (λ (l : List ℤ). capped k ∷ l) (take_map n ns)
 
 -- the text of their line
-pub numbers_text : (key n : ℕ) (ns : List ℕ) (vs : List ℤ) → length ns ≡ most_operations → length vs ≡ most_values → ((k : ℕ) → k < most_values → get_or vs k (pos 0) ≡ capped (get_or ns k 0))
+pub numbers_text : (key : Key) (n : ℕ) (ns : List ℕ) (vs : List ℤ) → length ns ≡ most_operations → length vs ≡ most_values → ((k : ℕ) → k < most_values → get_or vs k (pos 0) ≡ capped (get_or ns k 0))
     → text_of (record { key = key; count = n; values = vs }) ≡ line_text (key_of key) (map capped (take n ns))
 numbers_text key n ns vs l m e = line_text_lem key n vs (map capped (take n ns)) (ap (take n) (numbers_are ns vs l m e) ∙ take_map n ns)
 

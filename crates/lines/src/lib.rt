@@ -7,7 +7,7 @@ ghost use Rattle.text.specs.Line.{key_of, text_of, written_of};
 ghost use Rattle.lines.specs.Lines.{most_lines, shown, no_lines, with_line, capped};
 
 use sizes::MOST_OPERATIONS;
-use text::{GREATEST_NUMBER, Line, MOST_VALUES, Written};
+use text::{GREATEST_NUMBER, Key, Line, MOST_VALUES, Written};
 
 // The lines `answer=` and `interval=`.
 const HEAD_LINES: usize = 2;
@@ -24,7 +24,7 @@ pub struct Lines {
 
 // What stands past the lines of a new list.
 const BLANK: Line = Line {
-    key: 0,
+    key: Key::Horizon,
     count: 0,
     values: [0; MOST_VALUES],
 };
@@ -114,7 +114,7 @@ fn number(n: usize) -> i32
 }
 
 // A line of the first `count` numbers. One past the greatest that a line can have is written as that.
-pub fn numbers_line(key: usize, count: usize, numbers: [usize; MOST_OPERATIONS]) -> Line
+pub fn numbers_line(key: Key, count: usize, numbers: [usize; MOST_OPERATIONS]) -> Line
     ensures { text_of result ≡ line_text (key_of key) (map capped (take count numbers)) }
 {
     let mut values = [0i32; MOST_VALUES];

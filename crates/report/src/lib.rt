@@ -15,7 +15,7 @@ ghost use Rattle.report.specs.Printing.{Front};
 use interval_lines::put_interval;
 use sheet::Sheet;
 use sizes::MOST_OPERATIONS;
-use text::Written;
+use text::{Key, Written};
 
 // Room for whatever leastplan prints.
 pub const ROOM: usize = 8192;
@@ -77,7 +77,7 @@ fn put_answer(out: &mut [u8], answer: usize) -> usize
     ensures value { result ≡ length (refusal_text answer) }
     ensures out_after { out.new ≡ over (refusal_text answer) out.old }
 {
-    text_line::put_line(out, text_line::count_line(text::ANSWER, answer))
+    text_line::put_line(out, text_line::count_line(Key::Answer, answer))
 }
 
 // The intervals from 1 up, until one has a plan.

@@ -9,7 +9,7 @@ ghost use Rattle.text.specs.Sizes.{three_digits};
 ghost use Rattle.text.specs.Text.{buffer_of};
 ghost use Rattle.table_command.specs.Prints.{Answered};
 
-use text::Written;
+use text::{Key, Written};
 
 mod listing; // listing.rt: lines and the page, one after the other into a buffer
 mod steps; // steps.rt: the steps of a script, one after the other on a table
@@ -27,7 +27,7 @@ fn put_refusal(out: &mut [u8], answer: usize) -> Written
     ensures out_after { out.new ≡ buffer_of (refusal_text answer) out.old }
 {
     let mut line = [0u8; ANSWER_ROOM];
-    let count = text_line::put_line(&mut line, text_line::count_line(text::ANSWER, answer));
+    let count = text_line::put_line(&mut line, text_line::count_line(Key::Answer, answer));
     text_line::put_text(out, &line[..count])
 }
 

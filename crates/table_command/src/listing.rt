@@ -14,7 +14,7 @@ ghost use Rattle.table_command.specs.Whole.{Listed};
 use crate::steps;
 use placing_table::{Placement, Table};
 use sheet::Sheet;
-use text::Line;
+use text::{Key, Line};
 
 // A line from `at` on, and the place after it.
 pub fn put_line_at(out: &mut [u8], at: usize, line: Line) -> usize
@@ -41,12 +41,8 @@ fn entry_line(p: Placement) -> Line
 {
     let placed = flag(p.placed);
     text_line::line_of(
-        text::ENTRY,
-        3,
-        placed as i32,
-        p.start as i32,
-        p.instance as i32,
-        0,
+        Key::Entry,
+        &[placed as i32, p.start as i32, p.instance as i32],
     )
 }
 

@@ -14,6 +14,7 @@ use placing::{Offer, PlaceAnswer};
 use placing_table::Table;
 use sheet::Sheet;
 use table_script::{Step, StepLine, read_step};
+use text::Key;
 
 // The place after the lines of the steps so far, and the table after them.
 #[derive(Clone, Copy)]
@@ -53,14 +54,14 @@ fn put_answer(out: &mut [u8], at: usize, done: PlaceAnswer) -> usize
     requires { SmallAnswer done × (at + step_most ≤ length out.old) }
     ensures { Pasted at (lines_text (answer_lines done)) out.old out.new result }
 {
-    let after = put_line_at(out, at, text_line::count_line(text::ANSWER, done.answer));
+    let after = put_line_at(out, at, text_line::count_line(Key::Answer, done.answer));
     if done.answer != 0 {
         return after;
     }
     put_line_at(
         out,
         after,
-        text_line::count_line(text::INSTANCE, done.instance),
+        text_line::count_line(Key::Instance, done.instance),
     )
 }
 

@@ -4,71 +4,45 @@
 
 ghost use Rattle.std.specs.Prelude.{◌≡◌, [], ◌∷◌, ◌+◌, ◌≤◌, ◌<◌, min, pos, length, take};
 ghost use Rattle.text.specs.Text.{end_of, signed_text, line_text, over, buffer_of};
-ghost use Rattle.text.specs.Line.{key_of, text_of, line_of_four, count_of, written_of};
+ghost use Rattle.text.specs.Line.{key_of, text_of, line_of_numbers, count_of, written_of};
 ghost use Rattle.text.specs.Sizes.{most_values, greatest_number, longest_line};
 ghost use Rattle.text.specs.Writing.{pasted};
 ghost use Rattle.text.specs.Joined.{value_text};
 
-use text::{GREATEST_NUMBER, Line, MOST_VALUES, Written};
-
-// How many values the line has.
-fn value_count(line: Line) -> usize
-    ensures { (result ≡ length (take line.count line.values)) × (result ≤ most_values) }
-{
-    if MOST_VALUES < line.count {
-        return MOST_VALUES;
-    }
-    line.count
-}
+use text::{GREATEST_NUMBER, Key, Line, MOST_VALUES, Written};
 
 // The byte after a number with `more` of them to come.
 fn end_byte(more: usize) -> u8
     ensures { result ≡ end_of more }
 {
-    if more == 0 {
-        return b'\n';
-    }
-    b','
+    if more == 0 { b'\n' } else { b',' }
 }
 
-// A line of up to four numbers: the first `count` of a, b, c and d. The values past the four are 0.
-pub fn line_of(key: usize, count: usize, a: i32, b: i32, c: i32, d: i32) -> Line
-    ensures value { result ≡ line_of_four key count a b c d }
-    ensures result_value { text_of result ≡ line_text (key_of key) (take count (a ∷ b ∷ c ∷ d ∷ [])) }
+// A line of the numbers, at most as many as a line can have. The values past them are 0.
+pub fn line_of(key: Key, numbers: &[i32]) -> Line
+    ensures value { result ≡ line_of_numbers key numbers.now }
+    ensures result_value { text_of result ≡ line_text (key_of key) (take most_values numbers.now) }
 {
-    let mut values = [0i32; MOST_VALUES];
-    values[0] = a;
-    values[1] = b;
-    values[2] = c;
-    values[3] = d;
-    if 4 < count {
-        return Line {
-            key,
-            count: 4,
-            values,
-        };
-    }
+    let count = numbers.len().min(MOST_VALUES);
+    let mut values = [0; MOST_VALUES];
+    values[..count].copy_from_slice(&numbers[..count]);
     Line { key, count, values }
 }
 
 // A line with one number: n, or the greatest that a line can have where n is above it.
-pub fn count_line(key: usize, n: usize) -> Line
+pub fn count_line(key: Key, n: usize) -> Line
     ensures { text_of result ≡ line_text (key_of key) (pos (min n greatest_number) ∷ []) }
 {
-    if GREATEST_NUMBER < n {
-        return line_of(key, 1, 2147483647, 0, 0, 0);
-    }
-    line_of(key, 1, n as i32, 0, 0, 0)
+    line_of(key, &[n.min(GREATEST_NUMBER) as i32])
 }
 
 // How many bytes the line has.
 pub fn line_length(line: Line) -> usize
     ensures { (result ≡ length (text_of line)) × (result ≤ longest_line) }
 {
-    let n = value_count(line);
     let mut total = text::key_length(line.key);
-    for i in 0..n {
-        total += text::signed_length(line.values[i]) + 1;
+    for v in line.numbers() {
+        total += text::signed_length(*v) + 1;
     }
     total
 }
@@ -87,10 +61,10 @@ fn fill_line(out: &mut [u8], line: Line) -> usize
     requires { length (text_of line) ≤ length out.old }
     ensures { (result ≡ length (text_of line)) × (out.new ≡ over (text_of line) out.old) }
 {
-    let n = value_count(line);
+    let numbers = line.numbers();
     let mut at = text::put_key(out, line.key);
-    for i in 0..n {
-        at = put_value(out, at, line.values[i], n - i - 1);
+    for (i, v) in numbers.iter().enumerate() {
+        at = put_value(out, at, *v, numbers.len() - i - 1);
     }
     at
 }

@@ -13,7 +13,7 @@ ghost use Rattle.writer.specs.Lines.{head_lines, most_lines};
 
 use dependence::Edge;
 use sheet::{Operation, ResourceType, Sheet};
-use text::{Line, Written};
+use text::{Key, Line, Written};
 
 // ---- one line of each kind
 
@@ -22,12 +22,8 @@ fn type_line(t: ResourceType) -> Line
     ensures { text_of result ≡ line_text_of (type_line t) }
 {
     text_line::line_of(
-        text::TYPE,
-        3,
-        t.instances as i32,
-        t.latency as i32,
-        t.busy as i32,
-        0,
+        Key::ResourceType,
+        &[t.instances as i32, t.latency as i32, t.busy as i32],
     )
 }
 
@@ -35,7 +31,7 @@ fn op_line(o: Operation) -> Line
     requires { OpInRange most_types most_starts o }
     ensures { text_of result ≡ line_text_of (op_line o) }
 {
-    text_line::line_of(text::OP, 3, o.resource as i32, o.lo as i32, o.hi as i32, 0)
+    text_line::line_of(Key::Op, &[o.resource as i32, o.lo as i32, o.hi as i32])
 }
 
 fn edge_line(e: Edge) -> Line
@@ -43,12 +39,8 @@ fn edge_line(e: Edge) -> Line
     ensures { text_of result ≡ line_text_of (edge_line e) }
 {
     text_line::line_of(
-        text::EDGE,
-        4,
-        e.from as i32,
-        e.to as i32,
-        e.delay,
-        e.distance as i32,
+        Key::Edge,
+        &[e.from as i32, e.to as i32, e.delay, e.distance as i32],
     )
 }
 
@@ -63,12 +55,12 @@ fn head_line(s: Sheet, i: usize) -> Line
     ensures { text_of result ≡ line_text_of (get_or (sheet_lines s) i no_line) }
 {
     if i == 0 {
-        return text_line::count_line(text::HORIZON, s.horizon);
+        return text_line::count_line(Key::Horizon, s.horizon);
     }
     if i == 1 {
-        return text_line::count_line(text::CAP, s.cap);
+        return text_line::count_line(Key::Cap, s.cap);
     }
-    text_line::count_line(text::TYPES, s.type_count)
+    text_line::count_line(Key::Types, s.type_count)
 }
 
 fn line_at(s: Sheet, i: usize) -> Line
@@ -83,14 +75,14 @@ fn line_at(s: Sheet, i: usize) -> Line
         return type_line(s.types[j]);
     }
     if j == s.type_count {
-        return text_line::count_line(text::OPS, s.op_count);
+        return text_line::count_line(Key::Ops, s.op_count);
     }
     let k = j - s.type_count - 1;
     if k < s.op_count {
         return op_line(s.ops[k]);
     }
     if k == s.op_count {
-        return text_line::count_line(text::EDGES, s.edge_count);
+        return text_line::count_line(Key::Edges, s.edge_count);
     }
     edge_line(s.edges[k - s.op_count - 1])
 }

@@ -2,9 +2,9 @@
 -- From what `alone`, `count_line` and `with` ensure.
 use mathlib.Core.Path.{◌≡◌, sym, subst}
 use lib.ListN.{length}
+use Rattle.text.specs.declared.Key.TheVariants as keys
 use Rattle.text.specs.Sizes.{most_values}
 use Rattle.text.specs.Keys.{line_key}
-use Rattle.text.specs.Line.{key_of}
 use Rattle.text.specs.Lines.{count_line}
 use Rattle.words.specs.declared.Command.{Command}
 use Rattle.command_lines.specs.Listing.{refusal_lines}
@@ -28,14 +28,14 @@ with_requires : tie.Need-with-requires
 with_requires c κs = search rules
 
 returns : tie.Need-returns-in-Check
-unfolding key_of refusal_lines
+unfolding refusal_lines
 returns c =
     let l = c.count_line in
     let s = c in
     let w : length l.result.values ≡ most_values = search rules in
     subst (λ (k : Command). Shows c.with.result (refusal_lines k s.args.refusal s.args.line)) (sym c.in-Check.is)
     (added c.alone-alone.ensures (omega arith) l.result (count_line line_key s.args.line) w
-    (one 17 s.args.line l.result s.requires.1 l.ensures) c.with.ensures)
+    (one keys.Line s.args.line l.result s.requires.1 l.ensures) c.with.ensures)
 
 returns_2 : tie.Need-returns-in_default
 returns_2 c =

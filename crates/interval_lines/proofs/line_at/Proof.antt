@@ -2,7 +2,6 @@
 -- From what the writer of each kind of line ensures, and the places of the lines.
 use Prim.Native.Nat.{◌-◌}
 use mathlib.Core.Path.{sym, ap, ◌∙◌}
-use Rattle.text.specs.Line.{key_of}
 use Rattle.text.specs.Keys.{answer_key, interval_key}
 use Rattle.text.specs.Lines.{line_text_of}
 use Rattle.text.specs.Joined.{one_number}
@@ -16,14 +15,12 @@ count_line_requires : tie.Need-count_line-requires
 count_line_requires c κs = search rules
 
 returns : tie.Need-returns-then-i-eq0
-unfolding key_of
 returns c = let s = c in one_number answer_key s.args.a.answer (omega (arith, s.requires.0.answer)) c.count_line.ensures ∙ ap line_text_of (sym (answer_place s.args.s s.args.interval s.args.a s.args.i c.if-i-eq0.true))
 
 count_line_requires_2 : tie.Need-count_line-requires-then-i-eq1
 count_line_requires_2 c κs = search rules
 
 returns_2 : tie.Need-returns-then-i-eq1
-unfolding key_of
 returns_2 c = let s = c in one_number interval_key s.args.interval (omega (arith, s.requires.0.interval)) c.count_line-then-i-eq1.ensures ∙ ap line_text_of (sym (interval_place s.args.s s.args.interval s.args.a s.args.i c.if-i-eq1.true))
 
 loop_line_requires : tie.Need-loop_line-requires

@@ -4,7 +4,6 @@ use mathlib.Core.Path.{ap, ◌∙◌}
 use native.Mathlib.Omega.{arith}
 use Rattle.text.specs.Text.{line_text}
 use Rattle.text.specs.Keys.{loop_key}
-use Rattle.text.specs.Line.{key_of}
 use Rattle.lines.specs.Numbers.{as_they_are}
 use borrow.Author.Rules.{rules}
 use Rattle.interval_lines.proofs.loop_line.Statement.{statement}
@@ -14,7 +13,6 @@ numbers_line_requires : tie.Need-numbers_line-requires
 numbers_line_requires c κs = search rules
 
 returns : tie.Need-returns
-unfolding key_of
 returns c =
     let a = c.args in
     c.numbers_line.ensures ∙ ap (line_text loop_key) (as_they_are a.count a.edges (λ k. let h = c.requires k in omega arith))

@@ -1,7 +1,6 @@
 -- `judge_command::answer` meets its contract: the list has one line, that of the number.
 -- From what `examine`, `count_line`, `none`, `with` and `put` ensure.
 use mathlib.Core.Path.{ap, ◌∙◌}
-use Rattle.text.specs.Line.{key_of}
 use Rattle.lines.specs.declared.Lines.{Lines}
 use Rattle.lines.specs.Lines.{with_line}
 use Rattle.judge_command.specs.Printed.{printed}
@@ -28,7 +27,6 @@ same_length : tie.Need-shape_of-out
 same_length c = search rules
 
 returns : tie.Need-returns
-unfolding key_of
 returns c =
     let p = c in
     let w = p in

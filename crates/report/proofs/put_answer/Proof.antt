@@ -4,7 +4,7 @@ use Prim.Native.Nat.{ℕ}
 use mathlib.Core.Path.{◌≡◌, sym, ap, ◌∙◌}
 use mathlib.Core.List.{List}
 use Rattle.text.specs.Text.{buffer_of}
-use Rattle.text.specs.Line.{key_of, text_of, count_of}
+use Rattle.text.specs.Line.{text_of, count_of}
 use Rattle.text.specs.Keys.{answer_key}
 use Rattle.text.specs.Joined.{one_number}
 use Rattle.text.specs.Writing.{fitting}
@@ -26,7 +26,6 @@ same_length : tie.Need-shape_of-out
 same_length c = search rules
 
 returns : tie.Need-returns
-unfolding key_of
 returns c =
     let s = c in
     let n = s.args.answer in

@@ -8,7 +8,7 @@ use mathlib.Core.List.{List}
 use lib.ListN.{length, take, drop, replicate}
 use lib.Seq.{length-take-le, take_at}
 use Rattle.text.specs.Keys.{answer_key}
-use Rattle.text.specs.Line.{key_of, text_of, written_of}
+use Rattle.text.specs.Line.{text_of, written_of}
 use Rattle.text.specs.Text.{over, buffer_of}
 use Rattle.text.specs.Answers.{answer_line, refusal_text}
 use Rattle.text.specs.Bounds.{answer_most_lem}
@@ -21,7 +21,6 @@ use Rattle.table_command.proofs.put_refusal.Tie as tie
 
 -- the line of its own, and that it has room
 line_text_lem : (c : tie.After-count_line) → text_of c.count_line.result ≡ refusal_text c.args.answer
-unfolding key_of
 line_text_lem c =
     let s = c in
     one_number answer_key s.args.answer (omega (arith, s.requires)) c.count_line.ensures ∙ sym (one_line (answer_line s.args.answer))

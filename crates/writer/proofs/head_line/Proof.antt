@@ -4,7 +4,6 @@ use Prim.Native.Nat.{ℕ}
 use mathlib.Core.Path.{◌≡◌, sym, ap, ◌∙◌}
 use lib.ListN.{get_or}
 use Rattle.text.specs.Keys.{horizon_key, cap_key, types_key}
-use Rattle.text.specs.Line.{key_of}
 use Rattle.text.specs.Lines.{line_text_of, no_line}
 use Rattle.text.specs.Joined.{one_number}
 use Rattle.sheet.specs.Text.{sheet_lines}
@@ -18,7 +17,7 @@ count_line_requires : tie.Need-count_line-requires
 count_line_requires c κs = search rules
 
 returns : tie.Need-returns-then-i-eq0
-unfolding key_of sheet_lines
+unfolding sheet_lines
 returns c =
     let s = c in
     let m = horizon_most s.requires.0 in
@@ -29,7 +28,7 @@ count_line_requires_2 : tie.Need-count_line-requires-then-i-eq1
 count_line_requires_2 c κs = search rules
 
 returns_2 : tie.Need-returns-then-i-eq1
-unfolding key_of sheet_lines
+unfolding sheet_lines
 returns_2 c =
     let s = c in
     let m = cap_most s.requires.0 in
@@ -40,7 +39,7 @@ count_line_requires_3 : tie.Need-count_line-requires-2
 count_line_requires_3 c κs = search rules
 
 returns_3 : tie.Need-returns
-unfolding key_of sheet_lines
+unfolding sheet_lines
 returns_3 c =
     let s = c in
     let e : s.args.i ≡ 2 = omega arith in

@@ -6,7 +6,6 @@ use mathlib.Core.Path.{◌≡◌, sym, ap, ◌∙◌}
 use lib.ListN.{length}
 use Rattle.sizes.specs.Sizes.{most_types, most_operations, most_edges}
 use Rattle.text.specs.Keys.{ops_key, edges_key}
-use Rattle.text.specs.Line.{key_of}
 use Rattle.text.specs.Lines.{line_text_of}
 use Rattle.text.specs.Joined.{one_number}
 use Rattle.sheet.specs.Facts.{horizon_most, types_most, ops_most, edges_most}
@@ -64,7 +63,6 @@ count_line_requires : tie.Need-count_line-requires
 count_line_requires c κs = search rules
 
 returns_3 : tie.Need-returns-then-j-s-2
-unfolding key_of
 returns_3 c =
     let s = c.before.before.before.before in
     let f = fits s in
@@ -102,7 +100,6 @@ count_line_requires_2 : tie.Need-count_line-requires-then-k-s-2
 count_line_requires_2 c κs = search rules
 
 returns_5 : tie.Need-returns-then-k-s-2
-unfolding key_of
 returns_5 c =
     let s = c.before.before.before.before.before.before in
     let f = fits s in

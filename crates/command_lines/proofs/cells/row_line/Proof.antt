@@ -4,12 +4,12 @@ use Prim.Native.Nat.{ℕ, ◌-◌, ◌≤◌, ◌<◌}
 use mathlib.Core.Path.{◌≡◌, refl, ◌∙◌}
 use lib.IntN.{pos}
 use lib.ListN.{length, length-set}
+use Rattle.text.specs.declared.Key.TheVariants as keys
 use Rattle.sizes.specs.Sizes.{most_operations}
 use Rattle.laws.specs.Z.{kept, fits32}
 use Rattle.laws.specs.Entry.{at}
 use Rattle.laws.specs.Store.{store_more}
 use Rattle.laws.specs.Each.{each_take}
-use Rattle.text.specs.Line.{key_of}
 use Rattle.text.specs.Joined.{line_text_lem}
 use Rattle.command_lines.specs.Listing.{cell_of}
 use native.Mathlib.Omega.{arith}
@@ -58,11 +58,10 @@ loop_again c =
     )
 
 returns : tie.Need-returns invariant_loop decreases_loop
-unfolding key_of
 returns c =
     let l = c.loop-i in
     let a = c.args in
-    line_text_lem 15 a.count l.values _ (each_take a.count l.values (λ j. cell_of (at a.row j)) (pos 0) (omega (arith, l.invariant.1, c.requires)) (λ k h. l.invariant.2 k (omega (arith, c.requires))))
+    line_text_lem keys.Row a.count l.values _ (each_take a.count l.values (λ j. cell_of (at a.row j)) (pos 0) (omega (arith, l.invariant.1, c.requires)) (λ k h. l.invariant.2 k (omega (arith, c.requires))))
 
 pub row_line_spec : {M : Type 1} → statement M
 row_line_spec =

@@ -3,8 +3,8 @@
 use mathlib.Core.Path.{◌≡◌, sym, subst}
 use mathlib.Core.List.{[]}
 use lib.ListN.{length}
+use Rattle.text.specs.declared.Key.TheVariants as keys
 use Rattle.text.specs.Sizes.{most_values}
-use Rattle.text.specs.Line.{key_of}
 use Rattle.text.specs.Answers.{answer_line}
 use Rattle.lines.specs.declared.Lines.{Lines}
 use Rattle.command_lines.specs.Shows.{Shows, nothing, added, one}
@@ -23,13 +23,12 @@ with_requires : tie.Need-with-requires
 with_requires c κs = search rules
 
 returns : tie.Need-returns
-unfolding key_of
 returns c =
     let l = c.count_line in
     let s = c in
     let w : length l.result.values ≡ most_values = search rules in
     added (subst (λ (ls : Lines). Shows ls []) (sym c.none.ensures) nothing) (omega arith) l.result (answer_line s.args.answer) w
-    (one 8 s.args.answer l.result s.requires l.ensures) c.with.ensures
+    (one keys.Answer s.args.answer l.result s.requires l.ensures) c.with.ensures
 
 pub alone_spec : {M : Type 1} → statement M
 alone_spec = tie.close (tie.spec none_requires count_line_requires with_requires returns)

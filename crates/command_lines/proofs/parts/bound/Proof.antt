@@ -3,6 +3,7 @@
 use mathlib.Core.Path.{◌≡◌, sym, ap, subst, ◌∙◌}
 use mathlib.Core.List.{List, [], ◌∷◌, ◌++◌, append_assoc}
 use lib.ListN.{length, length-append}
+use Rattle.text.specs.declared.Key.TheVariants as keys
 use Rattle.text.specs.Sizes.{most_values}
 use Rattle.text.specs.Line.{key_of}
 use Rattle.text.specs.Lines.{Line, count_line}
@@ -22,14 +23,13 @@ with_requires c κs = search rules
 
 -- the answer's line
 answered : (c : tie.After-with-answered) (want : List Line) → Shows c.args.ls want → Shows c.with-answered.result (want ++ (answer_line c.args.answer ∷ []))
-unfolding key_of
 answered c want shows =
     let l = c.count_line in
     let s = c in
     let w : length l.result.values ≡ most_values = search rules in
     let n = shows.count in
     let h = s.requires.0 in
-    added shows (omega arith) l.result (answer_line s.args.answer) w (one 8 s.args.answer l.result s.requires.1 l.ensures) c.with-answered.ensures
+    added shows (omega arith) l.result (answer_line s.args.answer) w (one keys.Answer s.args.answer l.result s.requires.1 l.ensures) c.with-answered.ensures
 
 returns : tie.Need-returns-then-answer-ne0
 returns c =

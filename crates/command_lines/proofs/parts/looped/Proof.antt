@@ -5,7 +5,6 @@ use lib.ListN.{length, take}
 use Rattle.text.specs.Sizes.{most_values}
 use Rattle.text.specs.Text.{line_text}
 use Rattle.text.specs.Keys.{loop_key}
-use Rattle.text.specs.Line.{key_of}
 use Rattle.text.specs.Answers.{loop_line}
 use Rattle.lines.specs.Numbers.{as_they_are}
 use Rattle.command_lines.specs.Shows.{added}
@@ -21,7 +20,6 @@ with_requires : tie.Need-with-requires
 with_requires c κs = search rules
 
 returns : tie.Need-returns
-unfolding key_of
 returns c =
     let l = c.numbers_line in
     let s = c in

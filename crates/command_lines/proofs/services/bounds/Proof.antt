@@ -3,7 +3,6 @@
 use mathlib.Core.Path.{sym, subst}
 use mathlib.Core.List.{[]}
 use Rattle.text.specs.Keys.{recurrence_key}
-use Rattle.text.specs.Line.{key_of}
 use Rattle.lines.specs.declared.Lines.{Lines}
 use Rattle.command_lines.specs.Shows.{Shows, nothing, lists}
 use Rattle.command_lines.specs.Printable.{recurrence_few, resource_few}
@@ -32,7 +31,6 @@ bound_requires c κs =
 
 -- the recurrence bound's lines
 first : (c : tie.After-bound-first) → let r = c.recurrence_bound-recurrence.result in Shows c.bound-first.result (bound_lines recurrence_key r.answer r.value)
-unfolding key_of
 first c = c.bound-first.ensures [] (empty c.before)
 
 resource_bound_requires : tie.Need-resource_bound-resource-requires
@@ -47,7 +45,6 @@ bound_requires_2 c κs =
     (omega arith, h.0, h.1)
 
 returns : tie.Need-returns
-unfolding key_of
 returns c =
     let r = c.recurrence_bound-recurrence in
     lists (c.bound.ensures (bound_lines recurrence_key r.result.answer r.result.value) (first c.before.before)) (bounds r.ensures c.resource_bound-resource.ensures)

@@ -4,10 +4,10 @@ use Prim.Native.Nat.{ℕ, ◌-◌, ◌≤◌}
 use mathlib.Core.Path.{◌≡◌, subst}
 use mathlib.Core.List.{◌∷◌}
 use lib.ListN.{length}
+use Rattle.text.specs.declared.Key.TheVariants as keys
 use Rattle.laws.specs.Entry.{vec}
 use Rattle.laws.specs.Each.{each}
 use Rattle.text.specs.Sizes.{most_values}
-use Rattle.text.specs.Line.{key_of}
 use Rattle.text.specs.Answers.{answer_line, interval_line}
 use Rattle.command_lines.specs.Listing.{start_line}
 use Rattle.command_lines.specs.Shows.{Shows, each_added, one}
@@ -48,7 +48,6 @@ loop_less : tie.Need-loop-i-smaller invariant_loop decreases_loop
 loop_less c = omega arith
 
 loop_again : tie.Need-loop-i-preserved invariant_loop decreases_loop
-unfolding key_of
 loop_again c =
     let l = c.count_line in
     let t = c.loop-i in
@@ -57,7 +56,7 @@ loop_again c =
     let w : length l.result.values ≡ most_values = search rules in (
       omega arith,
       each_added (λ k. start_line (vec s.args.starts k)) t.invariant.1 (omega (arith, c.loop-i-test.true)) l.result w
-          (one 14 (vec s.args.starts t.i) l.result (s.requires.2 t.i) l.ensures) c.with-ls.ensures,
+          (one keys.Start (vec s.args.starts t.i) l.result (s.requires.2 t.i) l.ensures) c.with-ls.ensures,
     )
 
 returns : tie.Need-returns invariant_loop decreases_loop

@@ -2,9 +2,9 @@
 -- From what the service, `alone`, `with` and `denied` ensure, and that its numbers are small.
 use mathlib.Core.Path.{◌≡◌, sym, subst}
 use lib.ListN.{length}
+use Rattle.text.specs.declared.Key.TheVariants as keys
 use Rattle.text.specs.Sizes.{most_values}
 use Rattle.text.specs.Keys.{order_key}
-use Rattle.text.specs.Line.{key_of}
 use Rattle.text.specs.Lines.{count_line}
 use Rattle.command_lines.specs.Shows.{Shows, added, one, lists}
 use Rattle.command_lines.specs.Printable.{order_sized, order_few}
@@ -28,14 +28,13 @@ with_requires : tie.Need-with-requires
 with_requires c κs = search rules
 
 returns : tie.Need-returns-then-found-eq0
-unfolding key_of
 returns c =
     let a = c.slot_order-found in
     let l = c.count_line in
     let w : length l.result.values ≡ most_values = search rules in
     lists (subst (Shows c.with.result) (sym (order_given a.result c.if-found-eq0.true))
     (added c.alone-answered.ensures (omega arith) l.result (count_line order_key a.result.order) w
-    (one 16 a.result.order l.result (order_few c.requires a.ensures) l.ensures) c.with.ensures)) (prints.order a.ensures)
+    (one keys.Order a.result.order l.result (order_few c.requires a.ensures) l.ensures) c.with.ensures)) (prints.order a.ensures)
 
 denied_requires : tie.Need-denied-requires
 denied_requires c κs =

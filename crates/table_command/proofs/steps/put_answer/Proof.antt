@@ -4,7 +4,7 @@ use native.Mathlib.Omega.{arith}
 use mathlib.Core.Path.{◌≡◌, sym, ap, ◌∙◌}
 use lib.ListN.{length}
 use Rattle.text.specs.Keys.{answer_key, instance_key}
-use Rattle.text.specs.Line.{key_of, text_of}
+use Rattle.text.specs.Line.{text_of}
 use Rattle.text.specs.Lines.{line_text_of}
 use Rattle.text.specs.Answers.{answer_line, instance_line}
 use Rattle.text.specs.Joined.{one_number}
@@ -16,11 +16,9 @@ use Rattle.table_command.proofs.steps.put_answer.Tie as tie
 
 -- the texts of the two lines
 answer_text : (c : tie.After-count_line) → text_of c.count_line.result ≡ line_text_of (answer_line c.args.done.answer)
-unfolding key_of
 answer_text c = let s = c in one_number answer_key s.args.done.answer (omega (arith, s.requires.0.answer)) c.count_line.ensures
 
 instance_text : (c : tie.After-count_line-2) → text_of c.count_line-2.result ≡ line_text_of (instance_line c.args.done.instance)
-unfolding key_of
 instance_text c =
     let s = c in
     one_number instance_key s.args.done.instance (omega (arith, s.requires.0.instance)) c.count_line-2.ensures
