@@ -42,7 +42,7 @@ abbrev pub Ends : List ℕ → Type 0
 Ends [] = Unit {0}
 Ends (b ∷ bs) = (d : ℕ) → class_of b ≡ Digit d → ⊥
 
-value_or : (k : Class) (f : ℕ → Num) (o : Num) → ((d : ℕ) → k ≡ Digit d → ⊥) → digit_or k f o ≡ o
+pub value_or : (k : Class) (f : ℕ → Num) (o : Num) → ((d : ℕ) → k ≡ Digit d → ⊥) → digit_or k f o ≡ o
 value_or Minus f o n = refl
 value_or (Digit d) f o n = absurd (n d refl)
 value_or Comma f o n = refl

@@ -1,12 +1,8 @@
 -- A number of a line: one to four digits, no leading zero but 0 itself, after a minus where one may stand; -0 is none.
-use Rattle.std.specs.Prelude.{ℕ, ◌+◌, ◌*◌, ◌-◌, ◌≤◌, List, [], ◌∷◌, Bool, true, false, cond, leb, eqb, ltb, ℤ, pos, neg_ℤ, nat_abs, length, drop}
+use Rattle.std.specs.Prelude.{ℕ, ◌+◌, ◌*◌, ◌-◌, ◌≤◌, List, [], ◌∷◌, Bool, true, false, cond, leb, eqb, ltb, ℤ, pos, neg_ℤ, nat_abs, length, drop, Option, Some, None}
 use Rattle.text.specs.Sizes.{three_digits, four_digits}
 use Rattle.scan_number.specs.declared.Class.{Class}
 use Rattle.scan_number.specs.declared.Class.TheVariants.{Minus, Digit, Comma, LineFeed, Other}
-use Rattle.scan_number.specs.declared.Number.{Number}
-use Rattle.scan_number.specs.declared.Number.TheVariants.{Value, Malformed}
-use Rattle.scan_number.specs.declared.Whole.{Whole}
-use Rattle.scan_number.specs.declared.Whole.TheVariants.{Int, None}
 
 -- after the equals sign each byte is a minus, a digit, a comma or a line feed
 unfoldable pub class_of : ℕ → Class
@@ -78,22 +74,20 @@ whole_of true (b ∷ bs) = cond (eqb b 45) (signed_number true bs) (signed_numbe
 
 -- ---- what is found at a place of the bytes s
 
--- a number and the bytes from the place after it on, or that there is none
-unfoldable pub seen : List ℕ → Number → Num
-seen s (Value v p) = value v (drop p s)
-seen s Malformed = malformed
+-- a number and the bytes from the place after it on, or that there is no number
+abbrev pub seen : List ℕ → Option (ℕ × ℕ) → Num
+seen s (Some (v, p)) = value v (drop p s)
+seen s None = malformed
 
 -- the place after a number lies within s, and the number has at most four digits
-unfoldable pub within : List ℕ → Number → Type 0
-within s (Value v p) = (p ≤ length s) × (v ≤ four_digits)
-within s Malformed = Unit {0}
+abbrev pub Within : List ℕ → ℕ × ℕ → Type 0
+Within s (v, p) = (p ≤ length s) × (v ≤ four_digits)
 
 -- a whole number and the bytes from the place after it on, or that there is none
-unfoldable pub seen_whole : List ℕ → Whole → Signed
-seen_whole s (Int v p) = int v (drop p s)
+abbrev pub seen_whole : List ℕ → Option (ℤ × ℕ) → Signed
+seen_whole s (Some (v, p)) = int v (drop p s)
 seen_whole s None = none
 
 -- the place after a whole number lies within s, and the number has at most four digits
-unfoldable pub within_whole : List ℕ → Whole → Type 0
-within_whole s (Int v p) = (p ≤ length s) × (nat_abs v ≤ four_digits)
-within_whole s None = Unit {0}
+abbrev pub WithinWhole : List ℕ → ℤ × ℕ → Type 0
+WithinWhole s (v, p) = (p ≤ length s) × (nat_abs v ≤ four_digits)

@@ -3,8 +3,8 @@
 // `scan_list`.
 #![tactic(auto)]
 
-ghost use Rattle.std.specs.Prelude.{◌≡◌, ◌≤◌, length, drop};
-ghost use Rattle.scan_number.specs.Number.{class_of, number, more_digits, seen, within, signed_of, signed_number, whole_of, seen_whole, within_whole};
+ghost use Rattle.std.specs.Prelude.{◌≡◌, ◌≤◌, length, drop, IfSome};
+ghost use Rattle.scan_number.specs.Number.{class_of, number, more_digits, seen, Within, signed_of, signed_number, whole_of, seen_whole, WithinWhole};
 ghost use Rattle.text.specs.Sizes.{four_digits};
 
 // The greatest number of three digits.
@@ -20,6 +20,7 @@ pub enum Class {
     Other,
 }
 
+#[tactic(auto, unfolding(crate::specs::Number::class_of))]
 pub fn classify(b: u8) -> Class
     ensures { result ≡ class_of b }
 {
@@ -32,55 +33,36 @@ pub fn classify(b: u8) -> Class
     }
 }
 
-// A number without a sign and the place after it, or no number.
-#[derive(Clone, Copy)]
-pub enum Number {
-    Value(u32, usize),
-    Malformed,
-}
-
-// The rest of a number whose digits so far stand for `first`, from `at`: four digits at most, and none after a leading
-// 0.
-fn more_digits(s: &[u8], at: usize, first: u32) -> Number
+// The rest of a number whose digits so far stand for `first`, from `at`, and the place after it: four digits at most,
+// and none after a leading 0.
+#[tactic(auto, using(crate::proofs::Digits::digit_small, crate::proofs::Digits::digit_zero, crate::proofs::Digits::digit_full, crate::proofs::Digits::digit_more, crate::proofs::Digits::digit_stop, crate::proofs::Digits::digit_end))]
+fn more_digits(s: &[u8], at: usize, first: u32) -> Option<(u32, usize)>
     requires { (first ≤ 9) × (at ≤ length s.now) }
     ensures result_value { seen s.now result ≡ more_digits first (drop at s.now) }
-    ensures within { within s.now result }
+    ensures within { IfSome result (λ r. Within s.now r) }
 {
     let mut v = first;
-    let mut i = at;
-    while i < s.len() {
-        let b = s[i];
-        match classify(b) {
-            Class::Digit(d) => {
-                if v == 0 {
-                    return Number::Malformed;
-                }
-                if THREE_DIGITS < v {
-                    return Number::Malformed;
-                }
-                v = v * 10 + (d as u32);
-            }
-            _ => {
-                return Number::Value(v, i);
-            }
+    for i in at..s.len() {
+        let Class::Digit(d) = classify(s[i]) else {
+            return Some((v, i));
+        };
+        if v == 0 || THREE_DIGITS < v {
+            return None;
         }
-        i += 1;
+        v = v * 10 + u32::from(d);
     }
-    Number::Value(v, i)
+    Some((v, s.len()))
 }
 
-// The number without a sign at `at`.
-pub fn read_number(s: &[u8], at: usize) -> Number
+// The number without a sign at `at`, and the place after it.
+#[tactic(auto, using(crate::proofs::Digits::digit_small, crate::proofs::Digits::number_digit, crate::proofs::Digits::number_other, crate::proofs::Digits::number_end))]
+pub fn read_number(s: &[u8], at: usize) -> Option<(u32, usize)>
     ensures result_value { seen s.now result ≡ number (drop at s.now) }
-    ensures within { within s.now result }
+    ensures within { IfSome result (λ r. Within s.now r) }
 {
-    if s.len() <= at {
-        return Number::Malformed;
-    }
-    let b = s[at];
-    match classify(b) {
-        Class::Digit(d) => more_digits(s, at + 1, d as u32),
-        _ => Number::Malformed,
+    match classify(*s.get(at)?) {
+        Class::Digit(d) => more_digits(s, at + 1, u32::from(d)),
+        _ => None,
     }
 }
 
@@ -90,49 +72,30 @@ fn with_sign(negative: bool, n: u32) -> i32
     ensures { result ≡ signed_of negative n }
 {
     let v = n as i32;
-    if negative {
-        return -v;
-    }
-    v
+    if negative { -v } else { v }
 }
 
-// A whole number and the place after it, or none.
-#[derive(Clone, Copy)]
-pub enum Whole {
-    Int(i32, usize),
-    None,
-}
-
-// The number at `at` with the sign that was read before it; -0 is malformed.
-fn read_signed(s: &[u8], at: usize, negative: bool) -> Whole
+// The number at `at` with the sign that was read before it, and the place after it; -0 is malformed.
+#[tactic(auto, using(crate::proofs::Signs::signed_none, crate::proofs::Signs::signed_plain, crate::proofs::Signs::signed_minus, crate::proofs::Signs::signed_zero, crate::proofs::Signs::mag_signed))]
+fn read_signed(s: &[u8], at: usize, negative: bool) -> Option<(i32, usize)>
     ensures result_value { seen_whole s.now result ≡ signed_number negative (drop at s.now) }
-    ensures within_whole { within_whole s.now result }
+    ensures within_whole { IfSome result (λ r. WithinWhole s.now r) }
 {
-    match read_number(s, at) {
-        Number::Value(n, next) => {
-            if negative && n == 0 {
-                return Whole::None;
-            }
-            Whole::Int(with_sign(negative, n), next)
-        }
-        Number::Malformed => Whole::None,
+    let (n, next) = read_number(s, at)?;
+    if negative && n == 0 {
+        return None;
     }
+    Some((with_sign(negative, n), next))
 }
 
-// The number at `at`, after a minus where one may stand.
-pub fn read_whole(s: &[u8], at: usize, minus: bool) -> Whole
+// The number at `at`, after a minus where one may stand, and the place after it.
+#[tactic(auto, using(crate::proofs::Signs::whole_off, crate::proofs::Signs::whole_minus, crate::proofs::Signs::whole_end, crate::proofs::Signs::whole_plain))]
+pub fn read_whole(s: &[u8], at: usize, minus: bool) -> Option<(i32, usize)>
     ensures result_value { seen_whole s.now result ≡ whole_of minus (drop at s.now) }
-    ensures within_whole { within_whole s.now result }
+    ensures within_whole { IfSome result (λ r. WithinWhole s.now r) }
 {
-    if !minus {
-        return read_signed(s, at, false);
-    }
-    if s.len() <= at {
-        return Whole::None;
-    }
-    let b = s[at];
-    match classify(b) {
-        Class::Minus => read_signed(s, at + 1, true),
+    match s.get(at) {
+        Some(b'-') if minus => read_signed(s, at + 1, true),
         _ => read_signed(s, at, false),
     }
 }
