@@ -1,11 +1,9 @@
 -- A line: its key, numbers split by single commas, and a line feed. Every kind of line is read by the one definition.
-use Rattle.std.specs.Prelude.{ℕ, zero, suc, ◌≤◌, ◌≡◌, List, [], ◌∷◌, ◌++◌, Bool, false, cond, eqb, leb, ℤ, pos, nat_abs, length, drop, take, get_or, replicate}
+use Rattle.std.specs.Prelude.{ℕ, zero, suc, ◌≤◌, ◌≡◌, List, [], ◌∷◌, ◌++◌, Bool, false, cond, eqb, leb, ℤ, pos, nat_abs, length, drop, take, get_or, replicate, Option, Some, None}
 use Rattle.text.specs.Sizes.{four_digits}
 use Rattle.text.specs.Text.{end_of}
 use Rattle.scan_number.specs.Number.{Signed, int, none, on_int, whole_of}
 use Rattle.scan.specs.declared.Line.{Line}
-use Rattle.scan.specs.declared.Place.{Place}
-use Rattle.scan.specs.declared.Place.TheVariants.{After, Missing}
 
 -- ---- the key
 
@@ -75,18 +73,14 @@ due_line key k minus bs = cond (line_count k) (line_of key k minus bs) bad
 -- ---- what is found at a place of the bytes s
 
 -- the bytes from the place after the key on, or that the key is missing
-unfoldable pub seen_place : List ℕ → Place → Rest
-seen_place s (After p) = after (drop p s)
-seen_place s Missing = missing
-
--- the place after the key lies within s
-unfoldable pub within_place : List ℕ → Place → Type 0
-within_place s (After p) = p ≤ length s
-within_place s Missing = Unit {0}
+abbrev pub seen_place : List ℕ → Option ℕ → Rest
+seen_place s (Some p) = after (drop p s)
+seen_place s None = missing
 
 -- a line of k numbers
-unfoldable pub seen_line : List ℕ → ℕ → Line → Fields
-seen_line s k l = cond l.ok (fields (take k l.values) (drop l.next s)) bad
+abbrev pub seen_line : List ℕ → ℕ → Option Line → Fields
+seen_line s k (Some l) = fields (take k l.values) (drop l.next s)
+seen_line s k None = bad
 
 -- a line's number at place i, 0 past the end
 abbrev pub value_at : Line → ℕ → ℤ
@@ -102,4 +96,3 @@ pub record LineFits (s : List ℕ) (k : ℕ) (l : Line) : Type 0 where
   pub next : l.next ≤ length s
   pub small : (i : ℕ) → nat_abs (value_at l i) ≤ four_digits
   pub past : (i : ℕ) → k ≤ i → value_at l i ≡ pos 0
-  pub refused : l.ok ≡ false → (l.values ≡ zeros) × (l.next ≡ 0)

@@ -1,6 +1,6 @@
 -- What `read_line` promises of its result fixes the whole of it: two lines that fit and are seen alike are one.
 -- Assumes nothing.
-use Rattle.std.specs.Prelude.{◌≡◌, refl, Bool, true, false, List, ℕ, ◌≤◌, ◌<◌, ℤ, pos, length, drop, take, get_or}
+use Rattle.std.specs.Prelude.{◌≡◌, refl, List, ℕ, ◌≤◌, ◌<◌, ℤ, pos, length, drop, take, get_or, Option, Some, None, IfSome}
 use Rattle.std.proofs.Common.{sym, ap, ◌∙◌, arith, length-drop, get_or-take, ext_get_or}
 use Rattle.std.proofs.Math.Decide.{dec_lt}
 use Rattle.scan.specs.Line.{fields, bad, seen_line, LineFits, value_at}
@@ -21,19 +21,11 @@ module _ (s : List ℕ) (k : ℕ) (l m : Line) (f : LineFits s k l) (g : LineFit
 pub no_line : {vs : List ℤ} {rest : List ℕ} → fields vs rest ≡ bad → ⊥
 no_line e = let z : ◌≡◌ {A = ℕ} 0 1 = cc in omega arith
 
-one_at : (s : List ℕ) (k : ℕ) (a b : Bool) (l m : Line) → l.ok ≡ a → m.ok ≡ b → LineFits s k l → LineFits s k m → seen_line s k l ≡ seen_line s k m → l ≡ m
-unfolding seen_line
-one_at s k true true l m p q f g e =
-    let z : fields (take k l.values) (drop l.next s) ≡ fields (take k m.values) (drop m.next s) = simp (p, q) at e in
+pub one_line : (s : List ℕ) (k : ℕ) (a b : Option Line) → IfSome a (LineFits s k) → IfSome b (LineFits s k) → seen_line s k a ≡ seen_line s k b → a ≡ b
+one_line s k None None f g e = refl
+one_line s k None (Some m) f g e = absurd (no_line (sym e))
+one_line s k (Some l) None f g e = absurd (no_line e)
+one_line s k (Some l) (Some m) f g e =
     let v = same_values s k l m f g (cc) in
     let n = same_place s f.next g.next (cc) in
-    λ i. record { ok = (p ∙ sym q) i; values = v i; next = n i }
-one_at s k true false l m p q f g e = absurd (no_line (simp (p, q) at e))
-one_at s k false true l m p q f g e = absurd (no_line (sym (simp (p, q) at e)))
-one_at s k false false l m p q f g e =
-    let x = f.refused p in
-    let y = g.refused q in
-    λ i. record { ok = (p ∙ sym q) i; values = (x.0 ∙ sym y.0) i; next = (x.1 ∙ sym y.1) i }
-
-pub one_line : (s : List ℕ) (k : ℕ) (l m : Line) → LineFits s k l → LineFits s k m → seen_line s k l ≡ seen_line s k m → l ≡ m
-one_line s k l m f g e = one_at s k l.ok m.ok l m refl refl f g e
+    λ i. Some (record { values = v i; next = n i })

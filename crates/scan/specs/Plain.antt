@@ -1,5 +1,5 @@
 -- A line of at most three numbers of which none carries a minus.
-use Rattle.std.specs.Prelude.{ℕ, ◌≤◌, ◌≡◌, false, cond, List, [], ◌∷◌, map, leb, ℤ, pos, nat_abs, length, take, drop, get_or}
+use Rattle.std.specs.Prelude.{ℕ, ◌≤◌, ◌≡◌, cond, List, [], ◌∷◌, map, leb, ℤ, pos, nat_abs, length, take, drop, get_or, Option, Some, None}
 use Rattle.scan.specs.Line.{Fields, fields, bad, no_minus, due_line}
 use Rattle.scan.specs.declared.PlainLine.{PlainLine}
 
@@ -26,15 +26,11 @@ abbrev pub held_plain : List ℕ → ℕ → PlainLine → Fields
 held_plain s k r = fields (take k (map pos (plain_numbers r))) (drop r.next s)
 
 -- those, or that there is no such line
-unfoldable pub seen_plain : List ℕ → ℕ → PlainLine → Fields
-seen_plain s k r = cond r.ok (held_plain s k r) bad
-
--- everything 0
-abbrev pub no_plain : PlainLine
-no_plain = record { ok = false; first = 0; second = 0; third = 0; next = 0 }
+abbrev pub seen_plain : List ℕ → ℕ → Option PlainLine → Fields
+seen_plain s k (Some r) = held_plain s k r
+seen_plain s k None = bad
 
 -- the place after the line lies within s, and what is no part of the line is 0
 pub record PlainFits (s : List ℕ) (k : ℕ) (r : PlainLine) : Type 0 where
   pub next : r.next ≤ length s
   pub past : (i : ℕ) → k ≤ i → get_or (plain_numbers r) i 0 ≡ 0
-  pub refused : r.ok ≡ false → r ≡ no_plain

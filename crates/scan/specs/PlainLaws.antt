@@ -1,6 +1,6 @@
 -- A line of at most three numbers without a minus: as `read_plain` makes it of a line that was read, as a caller takes
 -- it, and that at most one result fits. Assumes nothing.
-use Rattle.std.specs.Prelude.{◌≡◌, refl, Bool, true, false, not, cond, ℕ, zero, suc, ◌≤◌, ◌<◌, T, ℤ, negsuc, nat_abs, length, drop, get_or}
+use Rattle.std.specs.Prelude.{◌≡◌, refl, Bool, true, false, cond, Option, Some, None, IfSome, ℕ, zero, suc, ◌≤◌, ◌<◌, T, ℤ, negsuc, nat_abs, length, drop, get_or}
 use Rattle.std.proofs.Math.Path.{sym, ap}
 use Rattle.std.proofs.Common.{◌∙◌, arith, take-take, Fits, le-leb}
 use mathlib.Core.List.{List, [], ◌∷◌, map}
@@ -8,22 +8,18 @@ use Rattle.std.proofs.Math.IntN.{pos}
 use Rattle.std.proofs.Math.ListN.{take}
 use Rattle.std.specs.Int.Signed.{non_neg}
 use Rattle.std.specs.Int.{w64}
-use Rattle.std.proofs.lemmas.Bool.{not-true, not-false, lt-leb}
+use Rattle.std.proofs.lemmas.Bool.{lt-leb}
 use Rattle.laws.specs.Z.{true_false}
 use Rattle.text.specs.Sizes.{four_digits}
 use Rattle.scan.specs.declared.Line.{Line}
 use Rattle.scan.specs.declared.PlainLine.{PlainLine}
-use Rattle.scan.specs.Line.{Fields, fields, bad, most_numbers, no_minus, line_of, line_count, due_line, seen_line, value_at, LineFits}
-use Rattle.scan.specs.Plain.{most_plain, plain_line, plain_numbers, held_plain, seen_plain, no_plain, PlainFits}
+use Rattle.scan.specs.Line.{Fields, fields, bad, most_numbers, no_minus, line_of, line_count, due_line, value_at, LineFits}
+use Rattle.scan.specs.Plain.{most_plain, plain_line, plain_numbers, held_plain, seen_plain, PlainFits}
 use Rattle.scan.specs.RoundTrip.{Writable}
 use Rattle.scan.specs.OneLine.{same_place, no_line}
-use Rattle.scan.specs.Values.{seen_fields, seen_bad, bits, bits_back, plain_nat, plain_at, cast_at}
+use Rattle.scan.specs.Values.{bits, bits_back, plain_nat, plain_at, cast_at}
 
--- ---- what a result promises
-
--- what the contract of `read_plain` says of a result at a place of the bytes s
-abbrev pub PlainAt : List ℕ → ℕ → List ℕ → ℕ → PlainLine → Type 0
-PlainAt s at key k r = (seen_plain s k r ≡ plain_line key k (drop at s)) × PlainFits s k r
+-- ---- a line that was read
 
 -- three numbers that are 0 from the place k on
 zero_from : {k a b c : ℕ} → (k ≤ 0 → a ≡ 0) → (k ≤ 1 → b ≡ 0) → (k ≤ 2 → c ≡ 0) → (i : ℕ) → k ≤ i
@@ -33,15 +29,12 @@ zero_from x y z (suc zero) h = y h
 zero_from x y z (suc (suc zero)) h = z h
 zero_from x y z (suc (suc (suc i))) h = refl
 
-none_fits : (s : List ℕ) (k : ℕ) → PlainFits s k no_plain
-none_fits s k = record { next = omega arith; past = zero_from (λ _. refl) (λ _. refl) (λ _. refl); refused = λ _. refl }
-
--- ---- a line that was read
-
 -- a count past the most
-pub plain_over : (s : List ℕ) (at : ℕ) (key : List ℕ) (k : ℕ) → most_plain < k → PlainAt s at key k no_plain
-unfolding seen_plain
-plain_over s at key k h = (rw (lt-leb k most_plain h), none_fits s k)
+pub plain_over : (key : List ℕ) (k : ℕ) (bs : List ℕ) → most_plain < k → bad ≡ plain_line key k bs
+plain_over key k bs h = rw (lt-leb k most_plain h)
+
+pub plain_none : (key : List ℕ) (k : ℕ) (bs : List ℕ) → k ≤ most_plain → bad ≡ due_line key k no_minus bs → bad ≡ plain_line key k bs
+plain_none key k bs h e = rw (le-leb k most_plain h) e
 
 -- a line that was read has a count that a line may have
 of_due : (b : Bool) (n : Fields) (vs : List ℤ) (rest : List ℕ) → cond b n bad ≡ fields vs rest → n ≡ fields vs rest
@@ -56,73 +49,45 @@ three_of (v ∷ []) e = absurd (omega arith)
 three_of (v ∷ w ∷ []) e = absurd (omega arith)
 three_of (v ∷ w ∷ x ∷ vs) e = refl
 
--- what `read_line` promises of the line at a place
-abbrev LineAt : List ℕ → ℕ → List ℕ → ℕ → Line → Type 0
-LineAt s at key k l = seen_line s k l ≡ due_line key k no_minus (drop at s)
-
 -- what the code makes of a line that was read
-abbrev plain_of : Line → PlainLine
+abbrev pub plain_of : Line → PlainLine
 plain_of l = record {
-  ok = true;
   first = nat_abs (bits l 0);
   second = nat_abs (bits l 1);
   third = nat_abs (bits l 2);
   next = l.next;
 }
 
-module _ (s : List ℕ) (at : ℕ) (key : List ℕ) (k : ℕ) (h : k ≤ most_plain) (l : Line) (e : LineAt s at key k l) (fits : LineFits s k l) where
-  pub plain_none : not l.ok ≡ true → PlainAt s at key k no_plain
-  unfolding seen_plain
-  plain_none t = (rw (le-leb k most_plain h) (sym (seen_bad s k l e (not-true l.ok t))), none_fits s k)
+module _ (s : List ℕ) (at : ℕ) (key : List ℕ) (k : ℕ) (l : Line) (e : fields (take k l.values) (drop l.next s) ≡ due_line key k no_minus (drop at s)) (fits : LineFits s k l) where
+  got : fields (take k l.values) (drop l.next s) ≡ line_of key k no_minus (drop at s)
+  got = sym (of_due (line_count k) _ _ _ (sym e))
 
-  module _ (t : not l.ok ≡ false) where
-    due : due_line key k no_minus (drop at s) ≡ fields (take k l.values) (drop l.next s)
-    due = seen_fields s k l e (not-false l.ok t)
+  -- its cast to an unsigned number
+  pub plain_cast : (i : ℕ) → i < most_numbers → T (non_neg (bits l i)) × Fits w64 (nat_abs (bits l i))
+  plain_cast i h = cast_at key k no_minus (drop at s) s l got fits i (λ z. absurd (omega arith))
 
-    got : line_of key k no_minus (drop at s) ≡ fields (take k l.values) (drop l.next s)
-    got = of_due (line_count k) _ _ _ due
+  number : (i : ℕ) → i < most_numbers → value_at l i ≡ pos (nat_abs (bits l i))
+  number i h =
+      plain_nat (value_at l i) (plain_at key k no_minus (drop at s) s l got fits i (λ z. absurd (omega arith)))
+      ∙ ap (λ (v : ℤ). pos (nat_abs v)) (sym (bits_back fits i))
 
-    -- its cast to an unsigned number
-    pub plain_cast : (i : ℕ) → i < most_numbers → T (non_neg (bits l i)) × Fits w64 (nat_abs (bits l i))
-    plain_cast i h = cast_at key k no_minus (drop at s) s l got fits i (λ z. absurd (omega arith))
+  -- 0 past its numbers
+  zero_at : (i : ℕ) → k ≤ i → nat_abs (bits l i) ≡ 0
+  zero_at i m = ap nat_abs (bits_back fits i ∙ fits.past i m)
 
-    number : (i : ℕ) → i < most_numbers → value_at l i ≡ pos (nat_abs (bits l i))
-    number i h =
-        plain_nat (value_at l i) (plain_at key k no_minus (drop at s) s l got fits i (λ z. absurd (omega arith)))
-        ∙ ap (λ (v : ℤ). pos (nat_abs v)) (sym (bits_back fits i))
+  pub plain_some : k ≤ most_plain → held_plain s k (plain_of l) ≡ plain_line key k (drop at s)
+  plain_some h =
+      let three : take 3 l.values ≡ map pos (plain_numbers (plain_of l)) =
+      three_of l.values fits.whole
+      ∙ (λ i. number 0 (omega arith) i ∷ number 1 (omega arith) i ∷ number 2 (omega arith) i ∷ []) in
+      let q : take k l.values ≡ take k (map pos (plain_numbers (plain_of l))) =
+      sym (take-take k 3 l.values h) ∙ ap (take k) three in
+      rw (le-leb k most_plain h) (sym (sym e ∙ ap (λ (vs : List ℤ). fields vs (drop l.next s)) q))
 
-    -- 0 past its numbers
-    zero_at : (i : ℕ) → k ≤ i → nat_abs (bits l i) ≡ 0
-    zero_at i m = ap nat_abs (bits_back fits i ∙ fits.past i m)
-
-    pub plain_some : PlainAt s at key k (plain_of l)
-    unfolding seen_plain
-    plain_some =
-        let three : take 3 l.values ≡ map pos (plain_numbers (plain_of l)) =
-        three_of l.values fits.whole
-        ∙ (λ i. number 0 (omega arith) i ∷ number 1 (omega arith) i ∷ number 2 (omega arith) i ∷ []) in
-        let q : take k l.values ≡ take k (map pos (plain_numbers (plain_of l))) =
-        sym (take-take k 3 l.values h) ∙ ap (take k) three in (
-          rw (le-leb k most_plain h) (sym (due ∙ ap (λ (vs : List ℤ). fields vs (drop l.next s)) q)),
-          record { next = fits.next; past = zero_from (zero_at 0) (zero_at 1) (zero_at 2); refused = true_false },
-        )
+  pub plain_fits : PlainFits s k (plain_of l)
+  plain_fits = record { next = fits.next; past = zero_from (zero_at 0) (zero_at 1) (zero_at 2) }
 
 -- ---- what a caller has
-
-seen_ok : (s : List ℕ) (k : ℕ) (r : PlainLine) → r.ok ≡ true → seen_plain s k r ≡ held_plain s k r
-unfolding seen_plain
-seen_ok s k r t = rw t
-
-seen_not : (s : List ℕ) (k : ℕ) (r : PlainLine) → r.ok ≡ false → seen_plain s k r ≡ bad
-unfolding seen_plain
-seen_not s k r t = rw t
-
-module _ (s : List ℕ) (at : ℕ) (key : List ℕ) (k : ℕ) (r : PlainLine) (e : PlainAt s at key k r) where
-  pub is_line : r.ok ≡ true → plain_line key k (drop at s) ≡ held_plain s k r
-  is_line t = sym e.0 ∙ seen_ok s k r t
-
-  pub is_bad : r.ok ≡ false → plain_line key k (drop at s) ≡ bad
-  is_bad t = sym e.0 ∙ seen_not s k r t
 
 -- the numbers of a line of one, two or three
 pub one_plain : (vs : List ℤ) → length vs ≡ 1 → Writable no_minus 0 vs → (n : ℕ) × (vs ≡ pos n ∷ []) × (n ≤ four_digits)
@@ -166,19 +131,14 @@ module _ (s : List ℕ) (r q : PlainLine) where
   same_numbers (suc (suc zero)) f g e = (cc, cc, zero_both f g 2 (omega arith))
   same_numbers (suc (suc (suc k))) f g e = (cc, cc, cc)
 
-  module _ (k : ℕ) (f : PlainFits s k r) (g : PlainFits s k q) where
-    same_held : r.ok ≡ q.ok → held_plain s k r ≡ held_plain s k q → r ≡ q
-    same_held b e =
-        let v = same_numbers k f g (cc) in
-        let n = same_place s f.next g.next (cc) in
-        λ i. record { ok = b i; first = v.0 i; second = v.1 i; third = v.2 i; next = n i }
+  same_held : (k : ℕ) → PlainFits s k r → PlainFits s k q → held_plain s k r ≡ held_plain s k q → r ≡ q
+  same_held k f g e =
+      let v = same_numbers k f g (cc) in
+      let n = same_place s f.next g.next (cc) in
+      λ i. record { first = v.0 i; second = v.1 i; third = v.2 i; next = n i }
 
-    -- the two flags, at their cases
-    one_at : (a b : Bool) → r.ok ≡ a → q.ok ≡ b → seen_plain s k r ≡ seen_plain s k q → r ≡ q
-    one_at true true x y e = same_held (x ∙ sym y) (sym (seen_ok s k r x) ∙ e ∙ seen_ok s k q y)
-    one_at true false x y e = absurd (no_line (sym (seen_ok s k r x) ∙ e ∙ seen_not s k q y))
-    one_at false true x y e = absurd (no_line (sym (seen_ok s k q y) ∙ sym e ∙ seen_not s k r x))
-    one_at false false x y e = f.refused x ∙ sym (g.refused y)
-
-    pub one_plain_line : seen_plain s k r ≡ seen_plain s k q → r ≡ q
-    one_plain_line = one_at r.ok q.ok refl refl
+pub one_plain_line : (s : List ℕ) (k : ℕ) (a b : Option PlainLine) → IfSome a (PlainFits s k) → IfSome b (PlainFits s k) → seen_plain s k a ≡ seen_plain s k b → a ≡ b
+one_plain_line s k None None f g e = refl
+one_plain_line s k None (Some q) f g e = absurd (no_line (sym e))
+one_plain_line s k (Some r) None f g e = absurd (no_line e)
+one_plain_line s k (Some r) (Some q) f g e = ap Some (same_held s r q k f g e)

@@ -8,18 +8,10 @@ use Rattle.std.specs.Int.{w32, w64}
 use Rattle.text.specs.Sizes.{four_digits}
 use Rattle.laws.specs.Z.{kept, true_false, four_digits_lem}
 use Rattle.scan.specs.declared.Line.{Line}
-use Rattle.scan.specs.Line.{Fields, fields, bad, line_of, seen_line, value_at, LineFits}
+use Rattle.scan.specs.Line.{fields, line_of, value_at, LineFits}
 use Rattle.scan.specs.RoundTrip.{is_negative, MayStand, Writable, line_text_lem}
 
 -- ---- what the code has of a line
-
-pub seen_fields : (s : List ℕ) (k : ℕ) (l : Line) {n : Fields} → seen_line s k l ≡ n → l.ok ≡ true → n ≡ fields (take k l.values) (drop l.next s)
-unfolding seen_line
-seen_fields s k l e t = sym e ∙ rw t
-
-pub seen_bad : (s : List ℕ) (k : ℕ) (l : Line) {n : Fields} → seen_line s k l ≡ n → l.ok ≡ false → n ≡ bad
-unfolding seen_line
-seen_bad s k l e t = sym e ∙ rw t
 
 -- a number as the code reads it back from its bits
 abbrev pub bits : Line → ℕ → ℤ
@@ -51,14 +43,14 @@ writable_plain minus i zero (v ∷ vs) w n = subst (λ (b : Bool). MayStand b v)
 writable_plain minus i (suc j) (v ∷ vs) w n = writable_plain minus (suc i) j vs w.2 (λ e. n (omega arith))
 
 -- of a line with this key and k numbers
-module _ (key : List ℕ) (k minus : ℕ) (bs s : List ℕ) (l : Line) (got : line_of key k minus bs ≡ fields (take k l.values) (drop l.next s)) (fits : LineFits s k l) where
+module _ (key : List ℕ) (k minus : ℕ) (bs s : List ℕ) (l : Line) (got : fields (take k l.values) (drop l.next s) ≡ line_of key k minus bs) (fits : LineFits s k l) where
   pub plain_at : (i : ℕ) → (i ≡ minus → ⊥) → is_negative (value_at l i) ≡ false
   plain_at i n = at (dec_lt i k)
     where
       at : Dec (i < k) → is_negative (value_at l i) ≡ false
       at (yes h) =
           ap is_negative (sym (get_or-take k l.values i (pos 0) h))
-          ∙ writable_plain minus 0 i (take k l.values) (line_text_lem key k minus bs _ _ got).good (λ z. n (omega arith))
+          ∙ writable_plain minus 0 i (take k l.values) (line_text_lem key k minus bs _ _ (sym got)).good (λ z. n (omega arith))
       at (no h) = ap is_negative (fits.past i (omega arith))
 
   -- its cast to an unsigned number
