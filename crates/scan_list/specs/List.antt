@@ -1,13 +1,13 @@
 -- A line of any count of numbers: its key, one or more numbers split by single commas, none with a sign, and a line
 -- feed.
-use Rattle.std.specs.Prelude.{ℕ, zero, suc, ◌≤◌, ◌<◌, ◌≡◌, List, [], ◌∷◌, ◌++◌, true, false, cond, leb, length, drop, take, get_or, replicate}
+use Rattle.std.specs.Prelude.{ℕ, zero, suc, ◌≤◌, ◌<◌, ◌≡◌, List, [], ◌∷◌, ◌++◌, cond, leb, length, drop, take, get_or, replicate, Option, Some, None}
 use Rattle.text.specs.Sizes.{four_digits}
 use Rattle.scan_number.specs.Number.{on_number, number, class_of}
 use Rattle.scan.specs.Line.{on_rest, stripped}
 use Rattle.scan_number.specs.declared.Class.{Class}
 use Rattle.scan_number.specs.declared.Class.TheVariants.{Minus, Digit, Comma, LineFeed, Other}
 use Rattle.scan_list.specs.declared.Item.{Item}
-use Rattle.scan_list.specs.declared.Item.TheVariants.{More, Last, Neither}
+use Rattle.scan_list.specs.declared.Item.TheVariants.{More, Last}
 use Rattle.scan_list.specs.declared.Items.{Items}
 
 -- the most numbers of such a line: an operation and the 24 edges of a chain
@@ -66,29 +66,24 @@ due_list key k bs = cond (leb k most_items) (list_of key k bs) unlisted
 
 -- ---- what is found at a place of the bytes s
 
-unfoldable pub seen_item : List ℕ → Item → Ended
-seen_item s (More n p) = more n (drop p s)
-seen_item s (Last n p) = last n (drop p s)
-seen_item s Neither = neither
+abbrev pub seen_item : List ℕ → Option Item → Ended
+seen_item s (Some (More n p)) = more n (drop p s)
+seen_item s (Some (Last n p)) = last n (drop p s)
+seen_item s None = neither
 
-unfoldable pub within_item : List ℕ → Item → Type 0
-within_item s (More n p) = (p ≤ length s) × (n ≤ four_digits)
-within_item s (Last n p) = (p ≤ length s) × (n ≤ four_digits)
-within_item s Neither = Unit {0}
+abbrev pub WithinItem : List ℕ → Item → Type 0
+WithinItem s (More n p) = (p ≤ length s) × (n ≤ four_digits)
+WithinItem s (Last n p) = (p ≤ length s) × (n ≤ four_digits)
 
-unfoldable pub seen_items : List ℕ → Items → Listed
-seen_items s r = cond r.ok (listed (take r.count r.values) (drop r.next s)) unlisted
-
--- the most numbers, all 0
-abbrev pub no_items : List ℕ
-no_items = replicate most_items 0
+abbrev pub seen_items : List ℕ → Option Items → Listed
+seen_items s (Some r) = listed (take r.count r.values) (drop r.next s)
+seen_items s None = unlisted
 
 -- the place after the line lies within s, each value has at most four digits, and what is no part of the line is 0
 pub record ItemsFit (s : List ℕ) (r : Items) : Type 0 where
   pub whole : length r.values ≡ most_items
   pub count : r.count ≤ most_items
-  pub some : r.ok ≡ true → 0 < r.count
+  pub some : 0 < r.count
   pub next : r.next ≤ length s
   pub small : (i : ℕ) → get_or r.values i 0 ≤ four_digits
   pub past : (i : ℕ) → r.count ≤ i → get_or r.values i 0 ≡ 0
-  pub refused : r.ok ≡ false → (r.count ≡ 0) × ((r.values ≡ no_items) × (r.next ≡ 0))

@@ -1,6 +1,6 @@
 -- A line with any count of numbers: as a caller of `read_list` has it, that at most one result fits, that reading it
 -- undoes writing it, and that what reads as such a line is its one text. Assumes nothing.
-use Rattle.std.specs.Prelude.{◌≡◌, refl, Bool, true, false, List, [], ◌∷◌, ◌++◌, map, ℕ, zero, suc, ◌≤◌, ◌<◌, pos, length, drop, take, get_or}
+use Rattle.std.specs.Prelude.{◌≡◌, refl, Option, Some, None, IfSome, List, [], ◌∷◌, ◌++◌, map, ℕ, zero, suc, ◌≤◌, ◌<◌, pos, length, drop, take, get_or}
 use Rattle.std.proofs.Common.{sym, ap, subst, ◌∙◌, append_assoc, arith, get_or-take, length-take-le, ext_get_or}
 use Rattle.std.proofs.Math.Decide.{dec_lt}
 use Rattle.std.proofs.lemmas.List.{length-map}
@@ -10,7 +10,7 @@ use Rattle.text.specs.Joined.{comma}
 use Rattle.scan_number.specs.Number.{Num, value, malformed, on_number, class_of, number}
 use Rattle.scan.specs.Line.{Rest, after, missing, stripped}
 use Rattle.scan_list.specs.List.{most_items, Ended, more, last, neither, ended_by, ended, item_of}
-use Rattle.scan_list.specs.List.{listed, unlisted, items_from, list_of, due_list, seen_items, ItemsFit}
+use Rattle.scan_list.specs.List.{listed, unlisted, items_from, list_of, seen_items, ItemsFit}
 use Rattle.scan_number.specs.Bytes.{byte_of}
 use Rattle.scan_number.specs.Digits.{reads_digits, canonical}
 use Rattle.scan.specs.RoundTrip.{strips, strip_text, end_no_digit}
@@ -18,28 +18,6 @@ use Rattle.scan.specs.OneLine.{same_place}
 use Rattle.scan_number.specs.declared.Class.{Class}
 use Rattle.scan_number.specs.declared.Class.TheVariants.{Minus, Digit, Comma, LineFeed, Other}
 use Rattle.scan_list.specs.declared.Items.{Items}
-
--- ---- what a caller has
-
--- what the contract of `read_list` says of a result at a place of the bytes s
-abbrev pub ListAt : List ℕ → ℕ → List ℕ → ℕ → Items → Type 0
-ListAt s at key k r = (seen_items s r ≡ due_list key k (drop at s)) × ItemsFit s r
-
-seen_ok : (s : List ℕ) (r : Items) → r.ok ≡ true
-    → seen_items s r ≡ listed (take r.count r.values) (drop r.next s)
-unfolding seen_items
-seen_ok s r t = rw t
-
-seen_not : (s : List ℕ) (r : Items) → r.ok ≡ false → seen_items s r ≡ unlisted
-unfolding seen_items
-seen_not s r t = rw t
-
-module _ (s : List ℕ) (at : ℕ) (key : List ℕ) (k : ℕ) (r : Items) (e : ListAt s at key k r) where
-  pub is_list : r.ok ≡ true → due_list key k (drop at s) ≡ listed (take r.count r.values) (drop r.next s)
-  is_list t = sym e.0 ∙ seen_ok s r t
-
-  pub is_no_list : r.ok ≡ false → due_list key k (drop at s) ≡ unlisted
-  is_no_list t = sym e.0 ∙ seen_not s r t
 
 -- ---- at most one result
 
@@ -70,24 +48,17 @@ no_list e = let z : ◌≡◌ {A = ℕ} 0 1 = cc in omega arith
 front_of : {s : List ℕ} {r : Items} → ItemsFit s r → Front r.count r.values
 front_of f = record { whole = f.whole; few = f.count; past = f.past }
 
-module _ (s : List ℕ) (r q : Items) (f : ItemsFit s r) (g : ItemsFit s q) where
-  -- the two flags, at their cases
-  one_at : (a b : Bool) → r.ok ≡ a → q.ok ≡ b → seen_items s r ≡ seen_items s q → r ≡ q
-  one_at true true x y e =
-      let z = sym (seen_ok s r x) ∙ e ∙ seen_ok s q y in
-      let v = same_front (front_of f) (front_of g) (cc) in
-      let n = same_place s f.next g.next (cc) in
-      λ i. record { ok = (x ∙ sym y) i; count = v.0 i; values = v.1 i; next = n i }
-  one_at true false x y e = absurd (no_list (sym (seen_ok s r x) ∙ e ∙ seen_not s q y))
-  one_at false true x y e = absurd (no_list (sym (seen_ok s q y) ∙ sym e ∙ seen_not s r x))
-  one_at false false x y e =
-      let c = (f.refused x).0 ∙ sym (g.refused y).0 in
-      let v = (f.refused x).1.0 ∙ sym (g.refused y).1.0 in
-      let n = (f.refused x).1.1 ∙ sym (g.refused y).1.1 in
-      λ i. record { ok = (x ∙ sym y) i; count = c i; values = v i; next = n i }
+same_items : (s : List ℕ) (r q : Items) → ItemsFit s r → ItemsFit s q → listed (take r.count r.values) (drop r.next s) ≡ listed (take q.count q.values) (drop q.next s) → r ≡ q
+same_items s r q f g e =
+    let v = same_front (front_of f) (front_of g) (cc) in
+    let n = same_place s f.next g.next (cc) in
+    λ i. record { count = v.0 i; values = v.1 i; next = n i }
 
-  pub one_list : seen_items s r ≡ seen_items s q → r ≡ q
-  one_list = one_at r.ok q.ok refl refl
+pub one_list : (s : List ℕ) (a b : Option Items) → IfSome a (ItemsFit s) → IfSome b (ItemsFit s) → seen_items s a ≡ seen_items s b → a ≡ b
+one_list s None None f g e = refl
+one_list s None (Some q) f g e = absurd (no_list (sym e))
+one_list s (Some r) None f g e = absurd (no_list e)
+one_list s (Some r) (Some q) f g e = ap Some (same_items s r q f g e)
 
 -- ---- the text of numbers, each with the byte that ends it
 
