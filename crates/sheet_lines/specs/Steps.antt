@@ -1,6 +1,6 @@
 -- Reading, as the code meets it: one law for each way that a line, a turn of a loop or a section can go.
 -- Assumes nothing.
-use Rattle.std.specs.Prelude.{◌≡◌, refl, true, false, not, List, [], ◌∷◌, ◌++◌, ℕ, zero, suc, ◌+◌, ◌-◌, ◌≤◌, ◌<◌, T, ℤ, pos, nat_abs, length, drop, take, get_or, set, replicate}
+use Rattle.std.specs.Prelude.{◌≡◌, refl, List, [], ◌∷◌, ◌++◌, ℕ, zero, suc, ◌+◌, ◌-◌, ◌≤◌, ◌<◌, T, ℤ, pos, nat_abs, length, drop, take, get_or, set, replicate}
 use Rattle.std.proofs.Common.{sym, ap, subst, ◌∙◌, append_assoc, add-one, length-append, length-set, take-suc-set, length-take-le, Fits}
 use Rattle.std.proofs.Math.Nat.{sub-zero}
 use native.Mathlib.Omega.{arith}
@@ -8,11 +8,10 @@ use Rattle.std.proofs.lemmas.List.{length-replicate}
 use Rattle.std.proofs.Math.Seq.{set-append_seam}
 use Rattle.std.specs.Int.Signed.{non_neg}
 use Rattle.std.specs.Int.{w64}
-use Rattle.std.proofs.lemmas.Bool.{not-true, not-false}
 use Rattle.scan.specs.declared.Line.{Line}
-use Rattle.scan.specs.Line.{Fields, fields, bad, line_of, seen_line, LineFits}
+use Rattle.scan.specs.Line.{Fields, fields, bad, line_of, LineFits}
 use Rattle.scan.specs.Values as values
-use Rattle.scan.specs.Values.{seen_fields, seen_bad, bits, bits_at}
+use Rattle.scan.specs.Values.{bits, bits_at}
 use Rattle.sheet.specs.Ranges.{Inside}
 use Rattle.sheet.specs.AnswerLaws.{number_judged}
 use Rattle.sheet_lines.specs.Kinds.{number_kind}
@@ -46,40 +45,37 @@ pub line_in_lem : {A : Type 0} (k : Kind A) (bs : List ℕ) (vs : List ℤ) (res
 unfolding line_from
 line_in_lem k bs vs rest e f = rw (e, f)
 
+-- no line at a place
+pub malformed : {A : Type 0} (k : Kind A) (s : List ℕ) (at : ℕ) → bad ≡ line_of k.key k.count k.minus (drop at s) → at ≤ length s → (none : A) → Reads s 2 none at (line_from k (drop at s))
+malformed k s at e h none = record {
+  same = seen_other s 2 none at (λ z. absurd (omega arith)) ∙ sym (line_bad k (drop at s) (sym e));
+  within = h;
+}
+
 -- a line that `scan` has read at a place, and its entry
-module _ {A : Type 0} (k : Kind A) (s : List ℕ) (at : ℕ) (l : Line) (e : seen_line s k.count l ≡ line_of k.key k.count k.minus (drop at s)) (fits : LineFits s k.count l) where
-  pub malformed : at ≤ length s → (none : A) → not l.ok ≡ true → Reads s 2 none at (line_from k (drop at s))
-  malformed h none t = record {
-    same = seen_other s 2 none at (λ z. absurd (omega arith)) ∙ sym (line_bad k (drop at s) (seen_bad s k.count l e (not-true _ t)));
-    within = h;
-  }
+module _ {A : Type 0} (k : Kind A) (s : List ℕ) (at : ℕ) (l : Line) (e₀ : fields (take k.count l.values) (drop l.next s) ≡ line_of k.key k.count k.minus (drop at s)) (fits : LineFits s k.count l) where
+  -- a number is read back from its bits
+  pub value_at_lem : (i : ℕ) → i < k.count → bits l i ≡ get_or (take k.count l.values) i (pos 0)
+  value_at_lem i h = bits_at fits i h
 
-  module _ (t : not l.ok ≡ false) where
-    got : line_of k.key k.count k.minus (drop at s) ≡ fields (take k.count l.values) (drop l.next s)
-    got = seen_fields s k.count l e (not-false _ t)
+  -- its cast to an unsigned number
+  pub cast_at : (i : ℕ) → (i ≡ k.minus → ⊥) → T (non_neg (bits l i)) × Fits w64 (nat_abs (bits l i))
+  cast_at i n = values.cast_at k.key k.count k.minus (drop at s) s l e₀ fits i n
 
-    -- a number is read back from its bits
-    pub value_at_lem : (i : ℕ) → i < k.count → bits l i ≡ get_or (take k.count l.values) i (pos 0)
-    value_at_lem i h = bits_at fits i h
+  module _ (a : A) (made : a ≡ k.make (take k.count l.values)) where
+    pub refuses : {answer : ℕ} → at ≤ length s → (none : A) → answer ≡ k.answer a → (answer ≡ 0 → ⊥) → Reads s answer none at (line_from k (drop at s))
+    refuses {answer} h none e n =
+        let q : answer ≡ k.answer (k.make (take k.count l.values)) = e ∙ ap k.answer made in
+        record {
+          same = seen_other s answer none at n ∙ ap (λ (m : ℕ). refused m (drop at s)) q ∙ sym (line_out k (drop at s) _ _ (sym e₀) (λ z. n (q ∙ z)));
+          within = h;
+        }
 
-    -- its cast to an unsigned number
-    pub cast_at : (i : ℕ) → (i ≡ k.minus → ⊥) → T (non_neg (bits l i)) × Fits w64 (nat_abs (bits l i))
-    cast_at i n = values.cast_at k.key k.count k.minus (drop at s) s l got fits i n
-
-    module _ (a : A) (made : a ≡ k.make (take k.count l.values)) where
-      pub refuses : {answer : ℕ} → at ≤ length s → (none : A) → answer ≡ k.answer a → (answer ≡ 0 → ⊥) → Reads s answer none at (line_from k (drop at s))
-      refuses {answer} h none e n =
-          let q : answer ≡ k.answer (k.make (take k.count l.values)) = e ∙ ap k.answer made in
-          record {
-            same = seen_other s answer none at n ∙ ap (λ (m : ℕ). refused m (drop at s)) q ∙ sym (line_out k (drop at s) _ _ got (λ z. n (q ∙ z)));
-            within = h;
-          }
-
-      pub entry : {answer : ℕ} → answer ≡ k.answer a → answer ≡ 0 → Reads s 0 a l.next (line_from k (drop at s))
-      entry e z = record {
-        same = seen_zero s a l.next ∙ ap (λ (x : A). found x (drop l.next s)) made ∙ sym (line_in_lem k (drop at s) _ _ got (ap k.answer (sym made) ∙ sym e ∙ z));
-        within = fits.next;
-      }
+    pub entry : {answer : ℕ} → answer ≡ k.answer a → answer ≡ 0 → Reads s 0 a l.next (line_from k (drop at s))
+    entry e z = record {
+      same = seen_zero s a l.next ∙ ap (λ (x : A). found x (drop l.next s)) made ∙ sym (line_in_lem k (drop at s) _ _ (sym e₀) (ap k.answer (sym made) ∙ sym e ∙ z));
+      within = fits.next;
+    }
 
 -- ---- what was found
 

@@ -30,14 +30,13 @@ pub fn read_number(s: &[u8], at: usize, key: &[u8], field: usize) -> NumberRead
     requires { at ≤ length s.now }
     ensures { Reads s.now result.answer result.value result.next (line_from (number_kind key.now field) (drop at s.now)) }
 {
-    let line = scan::read_line(s, at, key, 1, NO_MINUS);
-    if !line.ok {
+    let Some(line) = scan::read_line(s, at, key, 1, NO_MINUS) else {
         return NumberRead {
             answer: MALFORMED,
             value: 0,
             next: at,
         };
-    }
+    };
     let values = line.values;
     let value = values[0] as usize;
     let answer = sheet::number_answer(field, value);
@@ -67,14 +66,13 @@ pub fn read_type(s: &[u8], at: usize) -> TypeRead
     requires { at ≤ length s.now }
     ensures { Reads s.now result.answer result.entry result.next (line_from type_kind (drop at s.now)) }
 {
-    let line = scan::read_line(s, at, b"type=", 3, NO_MINUS);
-    if !line.ok {
+    let Some(line) = scan::read_line(s, at, b"type=", 3, NO_MINUS) else {
         return TypeRead {
             answer: MALFORMED,
             entry: NO_TYPE,
             next: at,
         };
-    }
+    };
     let values = line.values;
     let instances = values[0] as usize;
     let latency = values[1] as usize;
@@ -111,14 +109,13 @@ pub fn read_op(s: &[u8], at: usize, types: usize, horizon: usize) -> OpRead
     requires { at ≤ length s.now }
     ensures { Reads s.now result.answer result.entry result.next (line_from (op_kind types horizon) (drop at s.now)) }
 {
-    let line = scan::read_line(s, at, b"op=", 3, NO_MINUS);
-    if !line.ok {
+    let Some(line) = scan::read_line(s, at, b"op=", 3, NO_MINUS) else {
         return OpRead {
             answer: MALFORMED,
             entry: NO_OPERATION,
             next: at,
         };
-    }
+    };
     let values = line.values;
     let resource = values[0] as usize;
     let lo = values[1] as usize;
@@ -151,14 +148,13 @@ pub fn read_edge(s: &[u8], at: usize, ops: usize) -> EdgeRead
     requires { at ≤ length s.now }
     ensures { Reads s.now result.answer result.entry result.next (line_from (edge_kind ops) (drop at s.now)) }
 {
-    let line = scan::read_line(s, at, b"edge=", 4, DELAY_PLACE);
-    if !line.ok {
+    let Some(line) = scan::read_line(s, at, b"edge=", 4, DELAY_PLACE) else {
         return EdgeRead {
             answer: MALFORMED,
             entry: NO_EDGE,
             next: at,
         };
-    }
+    };
     let values = line.values;
     let entry = Edge {
         from: values[0] as usize,
