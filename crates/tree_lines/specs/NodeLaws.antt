@@ -12,7 +12,6 @@ use Rattle.laws.specs.Store.{all_zero}
 use Rattle.laws.specs.Tests.{by_test}
 use Rattle.text.specs.Keys.{loop_key}
 use Rattle.scan_list.specs.List.{most_items, Listed, listed, unlisted, on_listed, list_of, ItemsFit}
-use Rattle.scan_list.specs.ListLaws.{ListAt, is_list, is_no_list}
 use Rattle.scan_list.specs.declared.Items.{Items}
 use Rattle.denial.specs.Tree.{Cut, split, seat, loop, late, clash, Below, none, more, CutKnown, LeafKnown}
 use Rattle.tree_lines.specs.declared.Node.{Node}
@@ -162,11 +161,6 @@ module _ (s : List ℕ) (l : Items) where
           (λ t. rw (t, pair (eqb-true l.count 2 t)) (is_clash (both (ltb (first l) n) (ltb (second l) n))))
           (λ t. rw t (is_clash false ∙ sym (clash_other n (numbers l) (drop l.next s) (no_pair t))))
 
-      -- a line that is none has no numbers
-      clash_none : l.ok ≡ false → seen_node s (node_if (clash_known n l) 5 l) ≡ malformed
-      unfolding node_if
-      clash_none e = rw (fit.refused e).0 (is_clash false)
-
       module _ (m : ℕ) where
         loop_is : seen_node s (node_if (all_below m (numbers l)) 3 l) ≡ loop_of m (numbers l) (drop l.next s)
         unfolding loop_of
@@ -263,66 +257,53 @@ module _ (s : List ℕ) (at n m : ℕ) where
       → known ≡ want → r ≡ node_if known kind l → NodeAt s at n m r
   given {l} {known} {want} {kind} fit lo hi h e k q = rw (q, k) (e, fits_node fit want kind lo hi h)
 
-  module _ (inSplit : Items) (a : ListAt s at split_key 2 inSplit) where
-    pub gives_split : {known : Bool} {r : Node} → inSplit.ok ≡ true → known ≡ cut_known n inSplit
-        → r ≡ node_if known 1 inSplit → NodeAt s at n m r
-    gives_split t =
-        given a.1 (omega arith) (omega arith) (λ z. let c = two inSplit.count _ z in (omega arith, λ _ _. c))
-        (cut_is s inSplit a.1 n 1 split (is_split s inSplit)
-        ∙ sym (node_split n m (drop at s) (is_list s at split_key 2 inSplit a t)))
+  -- a line with this key was read, or there is none
+  abbrev pub Line : List ℕ → ℕ → Items → Type 0
+  Line key k l = (listed (numbers l) (drop l.next s) ≡ list_of key k (drop at s)) × ItemsFit s l
 
-    module _ (u : inSplit.ok ≡ false) (inSeat : Items) (b : ListAt s at seat_key 2 inSeat) where
-      no_split : list_of split_key 2 (drop at s) ≡ unlisted
-      no_split = is_no_list s at split_key 2 inSplit a u
+  abbrev pub NoLine : List ℕ → ℕ → Type 0
+  NoLine key k = unlisted ≡ list_of key k (drop at s)
 
-      pub gives_seat : {known : Bool} {r : Node} → inSeat.ok ≡ true → known ≡ cut_known n inSeat
-          → r ≡ node_if known 2 inSeat → NodeAt s at n m r
-      gives_seat t =
-          given b.1 (omega arith) (omega arith) (λ z. let c = two inSeat.count _ z in (omega arith, λ _ _. c))
-          (cut_is s inSeat b.1 n 2 seat (is_seat s inSeat)
-          ∙ sym (node_seat n m (drop at s) no_split (is_list s at seat_key 2 inSeat b t)))
+  pub gives_split : {l : Items} {known : Bool} {r : Node} → Line split_key 2 l → known ≡ cut_known n l
+      → r ≡ node_if known 1 l → NodeAt s at n m r
+  gives_split {l} a =
+      given a.1 (omega arith) (omega arith) (λ z. let c = two l.count _ z in (omega arith, λ _ _. c))
+      (cut_is s l a.1 n 1 split (is_split s l) ∙ sym (node_split n m (drop at s) (sym a.0)))
 
-      module _ (v : inSeat.ok ≡ false) (in_loop : Items) (c : ListAt s at loop_key most_chained in_loop) where
-        no_seat : list_of seat_key 2 (drop at s) ≡ unlisted
-        no_seat = is_no_list s at seat_key 2 inSeat b v
+  module _ (no_split : NoLine split_key 2) where
+    pub gives_seat : {l : Items} {known : Bool} {r : Node} → Line seat_key 2 l → known ≡ cut_known n l
+        → r ≡ node_if known 2 l → NodeAt s at n m r
+    gives_seat {l} a =
+        given a.1 (omega arith) (omega arith) (λ z. let c = two l.count _ z in (omega arith, λ _ _. c))
+        (cut_is s l a.1 n 2 seat (is_seat s l) ∙ sym (node_seat n m (drop at s) (sym no_split) (sym a.0)))
 
-        pub gives_loop : {known : Bool} {r : Node} → in_loop.ok ≡ true → known ≡ all_below m (numbers in_loop)
-            → r ≡ node_if known 3 in_loop → NodeAt s at n m r
-        gives_loop t =
-            given c.1 (omega arith) (omega arith) (λ _. (c.1.some t, λ z _. absurd (z refl)))
-            (loop_is s in_loop c.1 n m
-            ∙ sym (node_loop n m (drop at s) no_split no_seat (is_list s at loop_key most_chained in_loop c t)))
+    module _ (no_seat : NoLine seat_key 2) where
+      pub gives_loop : {l : Items} {known : Bool} {r : Node} → Line loop_key most_chained l → known ≡ all_below m (numbers l)
+          → r ≡ node_if known 3 l → NodeAt s at n m r
+      gives_loop {l} a =
+          given a.1 (omega arith) (omega arith) (λ _. (a.1.some, λ z _. absurd (z refl)))
+          (loop_is s l a.1 n m ∙ sym (node_loop n m (drop at s) (sym no_split) (sym no_seat) (sym a.0)))
 
-        module _ (w : in_loop.ok ≡ false) (inLate : Items) (d : ListAt s at late_key most_items inLate) where
-          no_loop : list_of loop_key most_chained (drop at s) ≡ unlisted
-          no_loop = is_no_list s at loop_key most_chained in_loop c w
+      module _ (no_loop : NoLine loop_key most_chained) where
+        pub gives_late : {l : Items} {known : Bool} {r : Node} → Line late_key most_items l → known ≡ late_known n m l
+            → r ≡ node_if known 4 l → NodeAt s at n m r
+        gives_late {l} a =
+            given a.1 (omega arith) (omega arith) (λ _. (a.1.some, λ _ z. absurd (z refl)))
+            (late_is s l a.1 n m a.1.some
+            ∙ sym (node_late n m (drop at s) (sym no_split) (sym no_seat) (sym no_loop) (sym a.0)))
 
-          pub gives_late : {known : Bool} {r : Node} → inLate.ok ≡ true → known ≡ late_known n m inLate
-              → r ≡ node_if known 4 inLate → NodeAt s at n m r
-          gives_late t =
-              given d.1 (omega arith) (omega arith) (λ _. (d.1.some t, λ _ z. absurd (z refl)))
-              (late_is s inLate d.1 n m (d.1.some t)
-              ∙ sym (node_late n m (drop at s) no_split no_seat no_loop (is_list s at late_key most_items inLate d t)))
+        module _ (no_late : NoLine late_key most_items) where
+          pub gives_clash : {l : Items} {known : Bool} {r : Node} → Line clash_key 2 l → known ≡ clash_known n l
+              → r ≡ node_if known 5 l → NodeAt s at n m r
+          gives_clash {l} a =
+              given a.1 (omega arith) (omega arith) (λ z. let c = two l.count _ z in (omega arith, λ _ _. c))
+              (clash_is s l a.1 n
+              ∙ sym (node_clash n m (drop at s) (sym no_split) (sym no_seat) (sym no_loop) (sym no_late) (sym a.0)))
 
-          module _ (x : inLate.ok ≡ false) (inClash : Items) (f : ListAt s at clash_key 2 inClash) where
-            no_late : list_of late_key most_items (drop at s) ≡ unlisted
-            no_late = is_no_list s at late_key most_items inLate d x
-
-            pub gives_clash : {known : Bool} {r : Node} → known ≡ clash_known n inClash → r ≡ node_if known 5 inClash
-                → NodeAt s at n m r
-            gives_clash =
-                given f.1 (omega arith) (omega arith)
-                (λ z. let c = two inClash.count _ z in (omega arith, λ _ _. c))
-                (by_test inClash.ok
-                (λ t. clash_is s inClash f.1 n ∙ sym (found (is_list s at clash_key 2 inClash f t)))
-                (λ t. clash_none s inClash f.1 n t ∙ sym (nothing (is_no_list s at clash_key 2 inClash f t))))
-              where
-                found : {vs rest : List ℕ} → list_of clash_key 2 (drop at s) ≡ listed vs rest
-                    → node_of n m (drop at s) ≡ clash_of n vs rest
-                found = node_clash n m (drop at s) no_split no_seat no_loop no_late
-
-                nothing : list_of clash_key 2 (drop at s) ≡ unlisted → node_of n m (drop at s) ≡ malformed
-                nothing = node_none n m (drop at s) no_split no_seat no_loop no_late
+          pub gives_none : NoLine clash_key 2 → NodeAt s at n m no_node
+          unfolding seen_node
+          gives_none e =
+              (sym (node_none n m (drop at s) (sym no_split) (sym no_seat) (sym no_loop) (sym no_late) (sym e)), none_fits s)
 
 -- ---- what was read is the sheet's
 

@@ -118,22 +118,25 @@ pub fn read_node(s: &[u8], at: usize, ops: usize, edges: usize) -> Node
     ensures result_value { seen_node s.now result ≡ node_of ops edges (drop at s.now) }
     ensures node_fits { NodeFits s.now result }
 {
-    let split = read_list(s, at, b"split=", 2);
-    if split.ok {
+    if let Some(split) = read_list(s, at, b"split=", 2) {
         return node_if(cut_known(split, ops), SPLIT, split);
     }
-    let seat = read_list(s, at, b"seat=", 2);
-    if seat.ok {
+    if let Some(seat) = read_list(s, at, b"seat=", 2) {
         return node_if(cut_known(seat, ops), SEAT, seat);
     }
-    let walk = read_list(s, at, b"loop=", MOST_CHAINED);
-    if walk.ok {
+    if let Some(walk) = read_list(s, at, b"loop=", MOST_CHAINED) {
         return node_if(loop_known(walk, edges), LOOP, walk);
     }
-    let chain = read_list(s, at, b"late=", MOST_CHAINED + 1);
-    if chain.ok {
+    if let Some(chain) = read_list(s, at, b"late=", MOST_CHAINED + 1) {
         return node_if(late_known(chain, ops, edges), LATE, chain);
     }
-    let pair = read_list(s, at, b"clash=", 2);
-    node_if(clash_known(pair, ops), CLASH, pair)
+    if let Some(pair) = read_list(s, at, b"clash=", 2) {
+        return node_if(clash_known(pair, ops), CLASH, pair);
+    }
+    Node {
+        kind: 0,
+        count: 0,
+        values: [0; MOST_ITEMS],
+        next: 0,
+    }
 }
