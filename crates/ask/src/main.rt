@@ -129,11 +129,13 @@ fn print_page_of_plan(
 ) -> io::Result<()> {
     let mut input = [0u8; INPUT];
     let n = read_second(rt, &mut input)?;
-    let plan = plan_lines::read(&input[..n]);
-    if !plan.ok {
-        told::no_plan(rt, plan.fault);
-        return Ok(());
-    }
+    let plan = match plan_lines::read(&input[..n]) {
+        Ok(plan) => plan,
+        Err(fault) => {
+            told::no_plan(rt, fault);
+            return Ok(());
+        }
+    };
     if plan.interval != interval {
         told::another_interval(rt);
         return Ok(());

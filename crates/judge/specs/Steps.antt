@@ -8,7 +8,7 @@ use Rattle.laws.specs.Entry.{vec, ZeroFrom}
 use Rattle.text.specs.Keys.{answer_key, interval_key}
 use Rattle.scan.specs.Line.{fields, bad, no_minus, line_of}
 use Rattle.plan_lines.specs.declared.PlanLines.{PlanLines}
-use Rattle.plan_lines.specs.Lines.{malformed, first_at, plan_of, held, seen, LinesFit}
+use Rattle.plan_lines.specs.Lines.{malformed, first_at, plan_of, held, LinesFit}
 use Rattle.sheet.specs.declared.Sheet.{Sheet}
 use Rattle.sheet.specs.Sheet.{InRange, Interval}
 use Rattle.sheet.specs.Facts.{cap_least}
@@ -208,12 +208,12 @@ module _ (n m o : ℕ) (bs : List ℕ) where
 
 -- ---- the whole
 
-module _ (n m : ℕ) (bs : List ℕ) (p : PlanLines) (e : seen p ≡ plan_of bs) where
-  pub reads_plan : p.ok ≡ true
+module _ (n m : ℕ) (bs : List ℕ) where
+  pub reads_plan : (p : PlanLines) → held p ≡ plan_of bs
       → answer_of n m bs ≡ plan_for n p.interval (take p.count p.starts) (take p.count p.instances)
-  unfolding answer_of seen
-  reads_plan y = let q : held p ≡ plan_of bs = rw y at e in ap (answer_read n m bs) (sym q)
+  unfolding answer_of
+  reads_plan p e = ap (answer_read n m bs) (sym e)
 
-  pub reads_other : p.ok ≡ false → answer_of n m bs ≡ denial_of n m (min p.fault (first_at + n)) bs
-  unfolding answer_of seen
-  reads_other y = let q : malformed p.fault ≡ plan_of bs = rw y at e in ap (answer_read n m bs) (sym q)
+  pub reads_other : (fault : ℕ) → malformed fault ≡ plan_of bs → answer_of n m bs ≡ denial_of n m (min fault (first_at + n)) bs
+  unfolding answer_of
+  reads_other fault e = ap (answer_read n m bs) (sym e)

@@ -136,34 +136,33 @@ fn tree_examined(sheet: Sheet, text: &[u8], at: usize, interval: usize) -> Exami
 }
 
 // A denial; bytes that do not begin as one are at fault in the line `other`.
+#[tactic(auto, using(crate::specs::Steps::stops, crate::specs::Steps::no_answer, crate::specs::Steps::another_answer, crate::specs::Steps::no_interval_line, crate::specs::Steps::has_tree))]
 fn denial_examined(sheet: Sheet, text: &[u8], other: usize) -> Examined
     requires { InRange sheet }
     ensures { Examines sheet (denial_of sheet.op_count sheet.edge_count other text.now) result }
 {
-    let answer = read_plain(text, 0, b"answer=", 1);
-    if !answer.ok {
+    let Some(answer) = read_plain(text, 0, b"answer=", 1) else {
         return unreadable(other);
-    }
+    };
     if !is_denial(answer.first) {
         return unreadable(other);
     }
-    let interval = read_plain(text, answer.next, b"interval=", 1);
-    if !interval.ok {
+    let Some(interval) = read_plain(text, answer.next, b"interval=", 1) else {
         return unreadable(INTERVAL_LINE);
-    }
+    };
     tree_examined(sheet, text, interval.next, interval.first)
 }
 
 // A text: a plan, or else a denial.
+#[tactic(auto, using(crate::specs::Steps::reads_plan, crate::specs::Steps::reads_other))]
 fn text_examined(sheet: Sheet, text: &[u8]) -> Examined
     requires { InRange sheet }
     ensures { Examines sheet (answer_of sheet.op_count sheet.edge_count text.now) result }
 {
-    let plan = plan_lines::read(text);
-    if plan.ok {
-        return plan_examined(sheet, plan);
+    match plan_lines::read(text) {
+        Ok(plan) => plan_examined(sheet, plan),
+        Err(fault) => denial_examined(sheet, text, lesser(fault, FIRST_AT + sheet.op_count)),
     }
-    denial_examined(sheet, text, lesser(plan.fault, FIRST_AT + sheet.op_count))
 }
 
 // What the answer of another supplier is judged: 0 where it is passed; the refusal of the sheet; 18 for a text that is

@@ -1,7 +1,7 @@
 -- A plan's lines: `answer=0`, `interval=N`, then at most 24 lines `at=t,u`, and nothing more. Numbers as in a sheet.
-use Rattle.std.specs.Prelude.{ℕ, zero, suc, ◌+◌, ◌≤◌, ◌≡◌, true, false, cond, List, [], ◌∷◌, ◌++◌, eqb, length, take}
+use Rattle.std.specs.Prelude.{ℕ, zero, suc, ◌+◌, ◌≤◌, cond, List, [], ◌∷◌, ◌++◌, eqb, length, take, Result, Ok, Err}
 use Rattle.sizes.specs.Sizes.{most_operations}
-use Rattle.laws.specs.Entry.{zeros, ZeroFrom}
+use Rattle.laws.specs.Entry.{ZeroFrom}
 use Rattle.text.specs.Keys.{answer_key, interval_key, at_key}
 use Rattle.scan.specs.Line.{no_minus, line_of, on_fields}
 use Rattle.scan.specs.Plain.{number_at}
@@ -50,17 +50,12 @@ abbrev pub held : PlanLines → PlanRead
 held r = given r.interval (take r.count r.starts) (take r.count r.instances)
 
 -- that, or the line at fault
-unfoldable pub seen : PlanLines → PlanRead
-seen r = cond r.ok (held r) (malformed r.fault)
+abbrev pub seen : Result PlanLines ℕ → PlanRead
+seen (Ok r) = held r
+seen (Err n) = malformed n
 
--- everything 0 but the line n at fault
-abbrev pub no_lines : ℕ → PlanLines
-no_lines n = record { ok = false; fault = n; interval = 0; count = 0; starts = zeros; instances = zeros }
-
--- 0 past the lines; no line at fault of a plan, and everything else 0 of bytes that are no such lines
+-- 0 past the lines
 pub record LinesFit (r : PlanLines) : Type 0 where
   pub few : r.count ≤ most_operations
   pub starts : ZeroFrom r.count r.starts
   pub instances : ZeroFrom r.count r.instances
-  pub faultless : r.ok ≡ true → r.fault ≡ 0
-  pub refused : r.ok ≡ false → r ≡ no_lines r.fault

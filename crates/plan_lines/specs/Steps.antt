@@ -1,23 +1,20 @@
 -- A plan's lines as the code meets them: one law for each way that a line or a turn of the loop can go.
 -- Assumes nothing.
-use Rattle.std.specs.Prelude.{◌≡◌, true, false, not, pos, length, take, drop, set}
+use Rattle.std.specs.Prelude.{◌≡◌, pos, length, take, drop, set}
 use Rattle.std.proofs.Math.Path.{refl, sym}
-use Rattle.std.proofs.Common.{ap, subst, ◌∙◌, add-one, arith, length-drop, length-set, drop_of_length-le, take-suc-set, get_or-set_other, length-take-le}
+use Rattle.std.proofs.Common.{ap, ◌∙◌, add-one, arith, length-drop, length-set, drop_of_length-le, take-suc-set, get_or-set_other, length-take-le}
 use mathlib.Core.List.{List, [], ◌∷◌, ◌++◌}
 use Prim.Native.Nat.{ℕ, zero, suc, ◌+◌, ◌-◌, ◌≤◌, ◌<◌}
 use Rattle.std.proofs.lemmas.List.{length-replicate}
-use borrow.Author.Tests.{eq-eqb, ne_eqb, not-true, not-false}
+use borrow.Author.Tests.{eq-eqb, ne_eqb}
 use Rattle.sizes.specs.Sizes.{most_operations}
 use Rattle.laws.specs.Entry.{zeros, ZeroFrom}
 use Rattle.laws.specs.Store.{all_zero}
-use Rattle.laws.specs.Z.{true_false}
 use Rattle.text.specs.Keys.{answer_key, interval_key, at_key}
-use Rattle.scan.specs.declared.PlainLine.{PlainLine}
 use Rattle.scan.specs.Line.{fields, bad, no_minus, line_of}
-use Rattle.scan.specs.PlainLaws.{PlainAt, is_line, is_bad}
 use Rattle.plan_lines.specs.declared.PlanLines.{PlanLines}
 use Rattle.plan_lines.specs.Lines.{PlanRead, given, malformed, first_at, places_from, plan_of}
-use Rattle.plan_lines.specs.Lines.{seen, no_lines, LinesFit}
+use Rattle.plan_lines.specs.Lines.{LinesFit}
 
 pub no_plan : {L : ℕ} {ts us : List ℕ} {n : ℕ} → given L ts us ≡ malformed n → ⊥
 no_plan e = let z : ◌≡◌ {A = ℕ} 0 1 = cc in omega arith
@@ -70,30 +67,10 @@ module _ (bs : List ℕ) where
       unfolding plan_of
       places L b₂ e = rw (e₁, eq-eqb a 0 z, e)
 
--- ---- what the code gives
-
--- what the contracts say of a result, where want is what the bytes are
-abbrev pub Gives : PlanRead → PlanLines → Type 0
-Gives want r = (seen r ≡ want) × LinesFit r
+-- ---- the loop
 
 no_entries : ZeroFrom 0 zeros
 no_entries = record { whole = length-replicate {A = ℕ} most_operations 0; rest = λ i _. all_zero most_operations i }
-
-none_fit : (n : ℕ) → LinesFit (no_lines n)
-none_fit n = record {
-  few = omega arith;
-  starts = no_entries;
-  instances = no_entries;
-  faultless = λ e. true_false (sym e);
-  refused = λ _. refl;
-}
-
--- bytes that are no such lines
-pub none : {want : PlanRead} {r : PlanLines} (n : ℕ) → r ≡ no_lines n → want ≡ malformed n → Gives want r
-unfolding seen
-none n e w = (ap seen e ∙ sym w, subst LinesFit (sym e) (none_fit n))
-
--- ---- the loop
 
 -- what is still to be read, from the place p on, where i lines were read
 abbrev ahead : List ℕ → ℕ → List ℕ → List ℕ → ℕ → ℕ → PlanRead
@@ -130,49 +107,43 @@ module _ {s : List ℕ} {L : ℕ} {want : PlanRead} {ts us : List ℕ} {p i : �
     here = ap (λ (n : ℕ). malformed (first_at + n)) (length-take-le i ts (omega (arith, t.few, t.starts.whole)))
 
     -- a line past the most
-    pub over : {r : PlanLines} → most_operations ≤ i → r ≡ no_lines (first_at + i) → Gives want r
-    over m e =
+    pub over : most_operations ≤ i → malformed (first_at + i) ≡ want
+    over m =
         let q : most_operations - i ≡ 0 = omega arith in
         let z : ahead s L ts us p i ≡ malformed (first_at + length (take i ts)) =
         rw q (places_over L (take i ts) (take i us) (drop p s) some) in
-        none (first_at + i) e (sym t.same ∙ z ∙ here)
+        sym (sym t.same ∙ z ∙ here)
 
-    module _ (m : i < most_operations) (n : PlainLine) (e : PlainAt s p at_key 2 n) where
+    module _ (m : i < most_operations) where
       left : most_operations - i ≡ suc (most_operations - (i + 1))
       left = omega arith
 
-      pub stops : {r : PlanLines} → not n.ok ≡ true → r ≡ no_lines (first_at + i) → Gives want r
-      stops f q =
+      pub stops : bad ≡ line_of at_key 2 no_minus (drop p s) → malformed (first_at + i) ≡ want
+      stops e =
           let z : ahead s L ts us p i ≡ malformed (first_at + length (take i ts)) =
-          rw left (places_bad L (take i ts) (take i us) _ (drop p s) some (is_bad s p at_key 2 n e (not-true n.ok f))) in
-          none (first_at + i) q (sym t.same ∙ z ∙ here)
+          rw left (places_bad L (take i ts) (take i us) _ (drop p s) some (sym e)) in
+          sym (sym t.same ∙ z ∙ here)
 
-      pub turn : not n.ok ≡ false → Turn s L want (set ts i n.first) (set us i n.second) n.next (i + 1)
-      turn f =
-          let x = front_more n.first t.starts m in
-          let y = front_more n.second t.instances m in
-          let z : ahead s L ts us p i ≡ ahead s L (set ts i n.first) (set us i n.second) n.next (i + 1) =
-          rw (left, x, y) (places_more L (take i ts) (take i us) _ (drop p s) _ _ _ some (is_line s p at_key 2 n e (not-false n.ok f))) in
+      pub turn : (a b q : ℕ) → fields (pos a ∷ pos b ∷ []) (drop q s) ≡ line_of at_key 2 no_minus (drop p s)
+          → Turn s L want (set ts i a) (set us i b) q (i + 1)
+      turn a b q e =
+          let x = front_more a t.starts m in
+          let y = front_more b t.instances m in
+          let z : ahead s L ts us p i ≡ ahead s L (set ts i a) (set us i b) q (i + 1) =
+          rw (left, x, y) (places_more L (take i ts) (take i us) _ (drop p s) _ _ _ some (sym e)) in
           record {
             few = omega arith;
-            starts = zero_more n.first t.starts;
-            instances = zero_more n.second t.instances;
+            starts = zero_more a t.starts;
+            instances = zero_more b t.instances;
             same = sym z ∙ t.same;
           }
 
   -- the bytes end
-  pub done : length s ≤ p
-      → Gives want (record { ok = true; fault = 0; interval = L; count = i; starts = ts; instances = us })
-  unfolding seen
+  pub done : length s ≤ p → given L (take i ts) (take i us) ≡ want
   done h =
       let z : ahead s L ts us p i ≡ given L (take i ts) (take i us) =
-      rw (drop_of_length-le s h) (places_end L (take i ts) (take i us) (most_operations - i)) in (
-        sym z ∙ t.same,
-        record {
-          few = t.few;
-          starts = t.starts;
-          instances = t.instances;
-          faultless = λ _. refl;
-          refused = true_false;
-        },
-      )
+      rw (drop_of_length-le s h) (places_end L (take i ts) (take i us) (most_operations - i)) in
+      sym z ∙ t.same
+
+  pub fits : LinesFit (record { interval = L; count = i; starts = ts; instances = us })
+  fits = record { few = t.few; starts = t.starts; instances = t.instances }

@@ -5,9 +5,7 @@ use Rattle.std.proofs.Math.Path.{refl, sym, ap}
 use Rattle.std.proofs.Common.{subst, ◌∙◌, arith}
 use mathlib.Core.List.{List, [], ◌∷◌, ◌++◌}
 use Prim.Native.Nat.{ℕ, zero, suc, ◌≤◌, ◌<◌}
-use Rattle.scan.specs.declared.PlainLine.{PlainLine}
 use Rattle.scan.specs.Line.{fields, bad, no_minus, line_of}
-use Rattle.scan.specs.PlainLaws.{PlainAt, is_line, is_bad}
 use Rattle.table_script.specs.declared.Step.{Step}
 use Rattle.table_script.specs.declared.Step.TheVariants.{Offer, Book, Place}
 use Rattle.table_script.specs.declared.StepLine.{StepLine}
@@ -44,33 +42,6 @@ module _ (bs : List ℕ) where
 -- what its contract says of a result at a place of the bytes s
 abbrev pub ReadAt : List ℕ → ℕ → StepLine → Type 0
 ReadAt s at r = (seen s r ≡ step_of (drop at s)) × within s r
-
-module _ (s : List ℕ) (at : ℕ) (offer : PlainLine) (a : PlainAt s at offer_key 2 offer) where
-  pub gives_offer : offer.ok ≡ true → ReadAt s at (Read (Offer offer.first offer.second) offer.next)
-  unfolding seen within
-  gives_offer t = (sym (offer_step (drop at s) _ _ _ (is_line s at offer_key 2 offer a t)), a.1.next)
-
-  module _ (x : offer.ok ≡ false) (book : PlainLine) (b : PlainAt s at book_key 3 book) where
-    no_offer_lem : line_of offer_key 2 no_minus (drop at s) ≡ bad
-    no_offer_lem = is_bad s at offer_key 2 offer a x
-
-    pub gives_book : book.ok ≡ true
-        → ReadAt s at (Read (Book book.first book.second book.third) book.next)
-    unfolding seen within
-    gives_book t = (sym (book_step (drop at s) no_offer_lem _ _ _ _ (is_line s at book_key 3 book b t)), b.1.next)
-
-    module _ (y : book.ok ≡ false) (place : PlainLine) (c : PlainAt s at place_key 2 place) where
-      no_book : line_of book_key 3 no_minus (drop at s) ≡ bad
-      no_book = is_bad s at book_key 3 book b y
-
-      pub gives_place : place.ok ≡ true → ReadAt s at (Read (Place place.first place.second) place.next)
-      unfolding seen within
-      gives_place t =
-          (sym (place_step (drop at s) no_offer_lem no_book _ _ _ (is_line s at place_key 2 place c t)), c.1.next)
-
-      pub gives_none : place.ok ≡ false → ReadAt s at Malformed
-      unfolding seen within
-      gives_none t = (sym (no_step (drop at s) no_offer_lem no_book (is_bad s at place_key 2 place c t)), tt)
 
 -- ---- what a caller has of a result
 

@@ -27,21 +27,19 @@ pub enum StepLine {
 }
 
 // The step whose line stands at `at`.
+#[tactic(auto, using(crate::specs::Steps::offer_step, crate::specs::Steps::book_step, crate::specs::Steps::place_step, crate::specs::Steps::no_step), unfolding(crate::specs::Script::seen, crate::specs::Script::within))]
 pub fn read_step(bytes: &[u8], at: usize) -> StepLine
     ensures result_value { seen bytes.now result ≡ step_of (drop at bytes.now) }
     ensures within { within bytes.now result }
 {
-    let offer = read_plain(bytes, at, b"offer=", 2);
-    if offer.ok {
+    if let Some(offer) = read_plain(bytes, at, b"offer=", 2) {
         return StepLine::Read(Step::Offer(offer.first, offer.second), offer.next);
     }
-    let book = read_plain(bytes, at, b"book=", 3);
-    if book.ok {
+    if let Some(book) = read_plain(bytes, at, b"book=", 3) {
         let step = Step::Book(book.first, book.second, book.third);
         return StepLine::Read(step, book.next);
     }
-    let place = read_plain(bytes, at, b"place=", 2);
-    if place.ok {
+    if let Some(place) = read_plain(bytes, at, b"place=", 2) {
         return StepLine::Read(Step::Place(place.first, place.second), place.next);
     }
     StepLine::Malformed

@@ -17,6 +17,7 @@ pub struct Frame {
 
 // The piece whose line stands at `at`. Not ok, and both places 0, where there is no such line or fewer bytes follow it
 // than it says.
+#[tactic(auto, using(crate::specs::PieceLaws::nowhere, crate::specs::PieceLaws::no_line, crate::specs::PieceLaws::line_read, crate::specs::PieceLaws::negative, crate::specs::PieceLaws::too_few, crate::specs::PieceLaws::enough), unfolding(crate::specs::Piece::seen_piece))]
 pub fn next(s: &[u8], at: usize) -> Frame
     ensures result_value { seen_piece s.now result ≡ piece_of (drop at s.now) }
     ensures frame_fits { FrameFits s.now result }
@@ -26,10 +27,9 @@ pub fn next(s: &[u8], at: usize) -> Frame
         start: 0,
         end: 0,
     };
-    let line = read_line(s, at, b"bytes=", 1, NO_MINUS);
-    if !line.ok {
+    let Some(line) = read_line(s, at, b"bytes=", 1, NO_MINUS) else {
         return none;
-    }
+    };
     let values = line.values;
     let size = values[0];
     if size < 0 {

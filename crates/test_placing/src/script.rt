@@ -85,16 +85,14 @@ fn booked(
 
 // The lines that hand in a table or a part of it.
 fn handed_in(rt: &impl Print, sheet: Sheet, table: Table, s: &[u8], at: usize) -> io::Result<Step> {
-    let new = read_line(s, at, b"new=", 1, NO_MINUS);
-    if new.ok {
+    if let Some(new) = read_line(s, at, b"new=", 1, NO_MINUS) {
         let v = new.values;
         return Ok(Step {
             next: new.next,
             table: made(rt, sheet, count_of(v[0]))?,
         });
     }
-    let entry = read_line(s, at, b"entry=", 4, NO_MINUS);
-    if entry.ok {
+    if let Some(entry) = read_line(s, at, b"entry=", 4, NO_MINUS) {
         let v = entry.values;
         let p = Placement {
             placed: v[1] != 0,
@@ -111,8 +109,7 @@ fn handed_in(rt: &impl Print, sheet: Sheet, table: Table, s: &[u8], at: usize) -
 
 // The lines that put an operation in.
 fn put_in(rt: &impl Print, sheet: Sheet, table: Table, s: &[u8], at: usize) -> io::Result<Step> {
-    let place = read_line(s, at, b"place=", 3, NO_MINUS);
-    if place.ok {
+    if let Some(place) = read_line(s, at, b"place=", 3, NO_MINUS) {
         let v = place.values;
         return Ok(Step {
             next: place.next,
@@ -126,8 +123,7 @@ fn put_in(rt: &impl Print, sheet: Sheet, table: Table, s: &[u8], at: usize) -> i
             )?,
         });
     }
-    let book = read_line(s, at, b"book=", 4, NO_MINUS);
-    if book.ok {
+    if let Some(book) = read_line(s, at, b"book=", 4, NO_MINUS) {
         let v = book.values;
         let offer = Offer {
             operation: count_of(v[1]),
@@ -144,14 +140,12 @@ fn put_in(rt: &impl Print, sheet: Sheet, table: Table, s: &[u8], at: usize) -> i
 
 // The lines that ask about the table: the place after the line, 0 where there is none.
 fn asked(rt: &impl Print, sheet: Sheet, table: Table, s: &[u8], at: usize) -> io::Result<usize> {
-    let consistent = read_line(s, at, b"consistent=", 1, NO_MINUS);
-    if consistent.ok {
+    if let Some(consistent) = read_line(s, at, b"consistent=", 1, NO_MINUS) {
         let v = consistent.values;
         print::verdict(rt, placing_table::consistent(sheet, count_of(v[0]), table))?;
         return Ok(consistent.next);
     }
-    let offer = read_line(s, at, b"offer=", 3, NO_MINUS);
-    if offer.ok {
+    if let Some(offer) = read_line(s, at, b"offer=", 3, NO_MINUS) {
         let v = offer.values;
         print::offered(
             rt,
@@ -159,8 +153,7 @@ fn asked(rt: &impl Print, sheet: Sheet, table: Table, s: &[u8], at: usize) -> io
         )?;
         return Ok(offer.next);
     }
-    let whole = read_line(s, at, b"table=", 1, NO_MINUS);
-    if whole.ok {
+    if let Some(whole) = read_line(s, at, b"table=", 1, NO_MINUS) {
         print::table(rt, table)?;
         return Ok(whole.next);
     }

@@ -1,11 +1,9 @@
 -- The arguments of a command, `interval=L` and `pair=P`: what one word more says. A word comes as a line, its bytes and
 -- a line feed.
-use Rattle.std.specs.Prelude.{ℕ, true, cond, List, [], ◌∷◌, eqb, pos, nat_abs, get_or}
+use Rattle.std.specs.Prelude.{ℕ, true, cond, List, [], ◌∷◌, eqb, pos, nat_abs, get_or, Option, Some, None}
 use Rattle.text.specs.Keys.{interval_key}
 use Rattle.scan.specs.Line.{no_minus, line_of, on_fields}
 use Rattle.words.specs.declared.Given.{Given}
-use Rattle.words.specs.declared.Argument.{Argument}
-use Rattle.words.specs.declared.Argument.TheVariants.{Number, Other}
 
 -- `pair=`
 abbrev pub pair_key : List ℕ
@@ -17,14 +15,14 @@ on_end [] x o = x
 on_end (b ∷ bs) x o = o
 
 -- the number of a line that is this key with one number, as in a sheet, and nothing more
-unfoldable pub number_after : List ℕ → List ℕ → Argument
+unfoldable pub number_after : List ℕ → List ℕ → Option ℕ
 number_after key line =
-    on_fields (line_of key 1 no_minus line) (λ vs rest. on_end rest (Number (nat_abs (get_or vs 0 (pos 0)))) Other) Other
+    on_fields (line_of key 1 no_minus line) (λ vs rest. on_end rest (Some (nat_abs (get_or vs 0 (pos 0)))) None) None
 
 -- f of the number, or o where the word is another
-abbrev pub on_number : {A : Type 0} → Argument → (ℕ → A) → A → A
-on_number (Number n) f o = f n
-on_number Other f o = o
+abbrev pub on_number : {A : Type 0} → Option ℕ → (ℕ → A) → A → A
+on_number (Some n) f o = f n
+on_number None f o = o
 
 -- one time more, where 2 is twice or more
 unfoldable pub once_more : ℕ → ℕ

@@ -1,6 +1,6 @@
 -- Laws of the words, as the code meets them: a line that `scan` has read, and the rows of the table.
 -- Assumes nothing.
-use Rattle.std.specs.Prelude.{◌≡◌, refl, Bool, ℕ, ◌≤◌, ◌<◌, T, eqb, nat_abs, length, take, drop}
+use Rattle.std.specs.Prelude.{◌≡◌, refl, Bool, ℕ, ◌≤◌, ◌<◌, T, eqb, nat_abs, length, take, drop, Some, None}
 use Rattle.std.proofs.Common.{sym, ◌∙◌, arith, Fits, eq-eqb, eqb-true}
 use Rattle.std.proofs.Math.Path.{subst}
 use Rattle.std.proofs.Math.Bool.{true, false}
@@ -13,49 +13,44 @@ use Rattle.laws.specs.Tests.{by_test}
 use Rattle.laws.specs.Z.{true_false}
 use Rattle.text.specs.Keys.{interval_key}
 use Rattle.scan.specs.declared.Line.{Line}
-use Rattle.scan.specs.Line.{fields, no_minus, line_of, seen_line, LineFits}
-use Rattle.scan.specs.Values.{seen_fields, seen_bad, bits, bits_at, cast_at}
+use Rattle.scan.specs.Line.{fields, bad, no_minus, line_of, LineFits}
+use Rattle.scan.specs.Values.{bits, bits_at, cast_at}
 use Rattle.words.specs.declared.Given.{Given}
-use Rattle.words.specs.declared.Argument.TheVariants.{Number, Other}
 use Rattle.words.specs.Arguments.{pair_key, number_after, with_interval, with_pair, with_other, with_word}
 use Rattle.words.specs.Requests.{Row, taking, same, request_in}
 
 -- ---- a line that was read
 
-module _ (key line : List ℕ) (l : Line) (e : seen_line line 1 l ≡ line_of key 1 no_minus line) (fits : LineFits line 1 l) where
-  pub no_line : l.ok ≡ false → number_after key line ≡ Other
+pub no_line : (key line : List ℕ) → bad ≡ line_of key 1 no_minus line → None ≡ number_after key line
+unfolding number_after
+no_line key line e = rw (← e)
+
+module _ (key line : List ℕ) (l : Line) (e : fields (take 1 l.values) (drop l.next line) ≡ line_of key 1 no_minus line) (fits : LineFits line 1 l) where
+  pub more_after : l.next < length line → None ≡ number_after key line
   unfolding number_after
-  no_line t = rw (seen_bad line 1 l e t)
+  more_after h = rw (← e, drop-cons line l.next 0 h)
 
-  module _ (t : l.ok ≡ true) where
-    got : line_of key 1 no_minus line ≡ fields (take 1 l.values) (drop l.next line)
-    got = seen_fields line 1 l e t
+  pub number : length line ≤ l.next → Some (nat_abs (bits l 0)) ≡ number_after key line
+  unfolding number_after
+  number h = rw (← e, drop_of_length-le line h, bits_at fits 0 (omega arith))
 
-    pub more_after : l.next < length line → number_after key line ≡ Other
-    unfolding number_after
-    more_after h = rw (got, drop-cons line l.next 0 h)
-
-    pub number : length line ≤ l.next → number_after key line ≡ Number (nat_abs (bits l 0))
-    unfolding number_after
-    number h = rw (got, drop_of_length-le line h, bits_at fits 0 (omega arith))
-
-    -- its cast to an unsigned number
-    pub whole : T (non_neg (bits l 0)) × Fits w64 (nat_abs (bits l 0))
-    whole = cast_at key 1 no_minus line line l got fits 0 (λ z. absurd (omega arith))
+  -- its cast to an unsigned number
+  pub whole : T (non_neg (bits l 0)) × Fits w64 (nat_abs (bits l 0))
+  whole = cast_at key 1 no_minus line line l e fits 0 (λ z. absurd (omega arith))
 
 -- ---- one word more
 
 module _ (g : Given) (line : List ℕ) where
-  pub interval_word : (n : ℕ) → number_after interval_key line ≡ Number n → with_word g line ≡ with_interval g n
+  pub interval_word : (n : ℕ) → number_after interval_key line ≡ Some n → with_word g line ≡ with_interval g n
   unfolding with_word
   interval_word n e = rw e
 
-  module _ (o : number_after interval_key line ≡ Other) where
-    pub pair_word : (n : ℕ) → number_after pair_key line ≡ Number n → with_word g line ≡ with_pair g n
+  module _ (o : number_after interval_key line ≡ None) where
+    pub pair_word : (n : ℕ) → number_after pair_key line ≡ Some n → with_word g line ≡ with_pair g n
     unfolding with_word
     pair_word n e = rw (o, e)
 
-    pub other_word : number_after pair_key line ≡ Other → with_word g line ≡ with_other g
+    pub other_word : number_after pair_key line ≡ None → with_word g line ≡ with_other g
     unfolding with_word
     other_word e = rw (o, e)
 

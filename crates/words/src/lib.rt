@@ -62,29 +62,21 @@ pub const NOTHING: Given = Given {
     strange: false,
 };
 
-// The number of an argument, or that the word is another.
-#[derive(Clone, Copy)]
-enum Argument {
-    Number(usize),
-    Other,
-}
-
 // The number of the argument with this key, where the line is that and nothing more.
-fn number_after(line: &[u8], key: &[u8]) -> Argument
+#[tactic(auto, using(crate::specs::Laws::no_line, crate::specs::Laws::more_after, crate::specs::Laws::number, crate::specs::Laws::whole))]
+fn number_after(line: &[u8], key: &[u8]) -> Option<usize>
     ensures { result ≡ number_after key.now line.now }
 {
-    let read = scan::read_line(line, 0, key, 1, NO_MINUS);
-    if !read.ok {
-        return Argument::Other;
-    }
+    let read = scan::read_line(line, 0, key, 1, NO_MINUS)?;
     if read.next < line.len() {
-        return Argument::Other;
+        return None;
     }
     let values = read.values;
-    Argument::Number(values[0] as usize)
+    Some(values[0] as usize)
 }
 
 // Once, or twice and more.
+#[tactic(auto, unfolding(crate::specs::Arguments::once_more))]
 fn once_more(times: usize) -> usize
     ensures { result ≡ once_more times }
 {
@@ -95,16 +87,17 @@ fn once_more(times: usize) -> usize
 }
 
 // One word more; `line` has its bytes and a line feed after them.
+#[tactic(auto, using(crate::specs::Laws::interval_word, crate::specs::Laws::pair_word, crate::specs::Laws::other_word))]
 pub fn with_word(given: Given, line: &[u8]) -> Given
     ensures { result ≡ with_word given line.now }
 {
     let mut more = given;
-    if let Argument::Number(n) = number_after(line, b"interval=") {
+    if let Some(n) = number_after(line, b"interval=") {
         more.intervals = once_more(given.intervals);
         more.interval = n;
         return more;
     }
-    if let Argument::Number(n) = number_after(line, b"pair=") {
+    if let Some(n) = number_after(line, b"pair=") {
         more.pairs = once_more(given.pairs);
         more.pair = n;
         return more;
