@@ -11,7 +11,7 @@ use Rattle.domain.specs.Domain.{has}
 use Rattle.held_slots.specs.Held.{off}
 use Rattle.held_slots.specs.Seated.{near_w}
 use Rattle.saturation_slots.specs.SlotLaws.{off_slot, off_later, slot_small}
-use Rattle.saturation_slots.specs.Saturation.{slot_at, inside_b, Room, Fits, Barred, Widened, Raised, RaiseOne}
+use Rattle.saturation_slots.specs.Saturation.{slot_at, inside_b, Room, Fits, NoRoom, Bars, Widened, Raised}
 
 -- the same in the midst of it: the stretch of w slots, and of those that are covered, takes at most cap starts
 pub record Caps (n : ℕ) (ty : ℕ → ℕ) (l a k r s : ℕ) (used : List Bool) (reach : List ℕ) (w covered cap : ℕ) (bar : List ℕ) : Type 0 where
@@ -74,15 +74,15 @@ module _ (n : ℕ) (ty : ℕ → ℕ) (l a k r s : ℕ) (hl : 0 < l) (hs : s < l
   inside_near w covered t f i h e = let q = both_true (ty i == r) (nat_le (vec reach i) w) e in near_show t s (max w covered) i (eqb-true _ _ q.0) (omega (arith, f.reaches i h (eqb-true _ _ q.0), leb-true (vec reach i) w q.1))
 
   -- too many operations reach at most w: no plan
-  pub caps_over : {w covered cap c : ℕ} {bar bar' : List ℕ} → Caps n ty l a k r s used reach w covered cap bar → c ≡ tally n (inside_b ty (vec reach) r w) → cap < c → Barred n ty l a k r s used reach true bar'
-  caps_over {w} {covered} {cap} q e h = record { safe = λ t pl f. absurd (omega (arith, (q.caps t pl f).0, e, tally_le n (inside_b ty (vec reach) r w) (near_w ty t l r s (max w covered)) (inside_near w covered t f))) }
+  pub caps_over : {w covered cap c : ℕ} {bar : List ℕ} → Caps n ty l a k r s used reach w covered cap bar → c ≡ tally n (inside_b ty (vec reach) r w) → cap < c → NoRoom n ty l a k r s used reach
+  caps_over {w} {covered} {cap} q e h = record { none = λ t pl f. omega (arith, (q.caps t pl f).0, e, tally_le n (inside_b ty (vec reach) r w) (near_w ty t l r s (max w covered)) (inside_near w covered t f)) }
 
   -- as many as the stretch takes: the others are outside
-  pub caps_full : {w covered cap c : ℕ} {full : Bool} {bar out : List ℕ} → Caps n ty l a k r s used reach w covered cap bar → c ≡ tally n (inside_b ty (vec reach) r w) → (full ≡ true → c ≡ cap) → Raised n full bar ty reach r w out → Caps n ty l a k r s used reach w covered cap out
-  caps_full {w} {covered} {cap} {c} {full} {bar} {out} d e h u = record { caps = λ t pl f. let q = d.caps t pl f in (q.0, λ i m y. ⊎_elim (λ x. omega (arith, x, q.1 i m y)) (λ x. omega (arith, x.3, outside t pl f i m y x.0 x.2 q.0)) (u.each i m)) }
+  pub caps_full : {w covered cap c : ℕ} {bar out : List ℕ} → Caps n ty l a k r s used reach w covered cap bar → c ≡ tally n (inside_b ty (vec reach) r w) → c ≡ cap → Raised n bar ty reach r w out → Caps n ty l a k r s used reach w covered cap out
+  caps_full {w} {covered} {cap} {c} {bar} {out} d e h u = record { caps = λ t pl f. let q = d.caps t pl f in (q.0, λ i m y. ⊎_elim (λ x. omega (arith, x, q.1 i m y)) (λ x. omega (arith, x.2, outside t pl f i m y x.1 q.0)) (u.each i m)) }
     where
-      outside : (t : ℕ → ℕ) → Room n ty l a k r t → Fits n ty l r s used reach t → (i : ℕ) → i < n → ty i ≡ r → full ≡ true → w < vec reach i → tally n (near_w ty t l r s (max w covered)) ≤ cap → w ≤ off l s (t i % l)
-      outside t pl f i m y g z q = pick (dec_lt (off l s (t i % l)) w)
+      outside : (t : ℕ → ℕ) → Room n ty l a k r t → Fits n ty l r s used reach t → (i : ℕ) → i < n → ty i ≡ r → w < vec reach i → tally n (near_w ty t l r s (max w covered)) ≤ cap → w ≤ off l s (t i % l)
+      outside t pl f i m y z q = pick (dec_lt (off l s (t i % l)) w)
         where
           pick : Dec (off l s (t i % l) < w) → w ≤ off l s (t i % l)
           pick (no x) = omega arith
@@ -90,13 +90,13 @@ module _ (n : ℕ) (ty : ℕ → ℕ) (l a k r s : ℕ) (hl : 0 < l) (hs : s < l
             arith,
             q,
             e,
-            h g,
+            h,
             tally_lt n (inside_b ty (vec reach) r w) (near_w ty t l r s (max w covered)) i m
                 (λ b. let d = both_true (ty i == r) (nat_le (vec reach i) w) b in let v : vec reach i ≤ w = leb-true (vec reach i) w d.1 in omega arith) (near_show t s (max w covered) i y (omega arith)) (inside_near w covered t f),
           ))
 
-  pub caps_done : {w covered cap : ℕ} {fail : Bool} {bar out : List ℕ} → Caps n ty l a k r s used reach w covered cap bar → (fail ≡ false) × (out ≡ bar) → Barred n ty l a k r s used reach fail out
-  caps_done {bar = bar} {out = out} q e = record { safe = λ t pl f. (e.0, λ i h y. omega (arith, ap (λ (x : List ℕ). vec x i) e.1, (q.caps t pl f).1 i h y)) }
+  pub caps_done : {w covered cap : ℕ} {bar : List ℕ} → Caps n ty l a k r s used reach w covered cap bar → Bars n ty l a k r s used reach bar
+  caps_done q = record { safe = λ t pl f. (q.caps t pl f).1 }
 
 pub widened_small : {cap covered a k w cap' covered' : ℕ} (u : Bool) → Widened cap covered a k u w cap' covered' → a ≤ most_operations → cap ≤ w * most_operations → cap' ≤ (w + 1) * most_operations
 widened_small {cap} {covered} {a} {k} {w} {cap'} true m h q = pick (dec_lt w covered)
@@ -108,6 +108,3 @@ widened_small false m h q = omega (arith, (m.unused refl).0)
 
 pub widened_at : {cap covered a k w cap' covered' b b' : ℕ} (used : List Bool) → b ≡ b' → Widened cap covered a k (has used b) w cap' covered' → Widened cap covered a k (has used b') w cap' covered'
 widened_at {cap} {covered} {a} {k} {w} {cap'} {covered'} used e m = subst (λ (x : ℕ). Widened cap covered a k (has used x) w cap' covered') e m
-
-pub raised_all : {n : ℕ} {full : Bool} {bar : List ℕ} (ty : ℕ → ℕ) {reach : List ℕ} {r w : ℕ} {out : List ℕ} → ((i : ℕ) → i < n → RaiseOne full (ty i == r) (vec bar i) (vec reach i) w (vec out i)) → Raised n full bar ty reach r w out
-raised_all ty h = record { each = λ i l. ⊎_elim (λ e. inl e) (λ x. inr (x.0, eqb-true _ _ x.1, x.2, x.3)) (h i l).which }

@@ -10,7 +10,7 @@ ghost use Rattle.sizes.specs.Sizes.{most_operations, most_types, most_intervals}
 ghost use Rattle.laws.specs.Entry.{vec};
 ghost use Rattle.domain.specs.Domain.{Keeps};
 ghost use Rattle.task.specs.Plan.{TaskOk, PlanOf, instances_of, type_of};
-ghost use Rattle.saturation_slots.specs.Saturation.{CaseOk, Slotted, SlotCut, Crowded};
+ghost use Rattle.saturation_slots.specs.Saturation.{Slotted, SlotCut, Crowded};
 
 mod bars;
 
@@ -25,6 +25,7 @@ use task::Task;
 
 // The stretches from slot s on: whether more must be inside one than it takes; else without the starts that they rule
 // out.
+#[tactic(auto, using(saturation_trims::specs::TrimLaws::slot_fail, saturation_trims::specs::TrimLaws::slot_cut, saturation_trims::specs::TrimLaws::drained_self))]
 fn slot_saturation(
     case: Case,
     d: &mut Domain,
@@ -35,28 +36,23 @@ fn slot_saturation(
     reach: &[usize; MOST_OPERATIONS],
     s: usize,
 ) -> bool
-    requires { CaseOk case × (s < case.interval) }
+    requires { s < case.interval }
     ensures { SlotCut case (vec resource.now) s used.now reach.now d.old d.new result }
 {
-    let b = bars(case, resource, used, touch, reach, s);
-    if b.fail {
+    let Some(b) = bars(case, resource, used, touch, reach, s) else {
         return true;
-    }
-    if 0 < b.wide {
-        let bar = b.bar;
-        if drained(case, d, z, resource, &bar, s) {
-            forget(touch, b.wide, s, case.interval);
-        }
+    };
+    if 0 < b.wide && drained(case, d, z, resource, &b.bar, s) {
+        forget(touch, b.wide, s, case.interval);
     }
     false
 }
 
 // Rule 2 for this type, which `most` operations have, whose slots are z.
-fn type_saturation(p: Task, d: &mut Domain, z: &SlotRows, kind: usize, most: usize)
-    requires { TaskOk p × (kind < most_types) × (0 < instances_of p kind) × Slotted p.ops p.interval (type_of p) kind d.old z.now }
-    ensures { Keeps (PlanOf p) p.ops d.old d.new }
+fn type_saturation(p: &Task, d: &mut Domain, z: &SlotRows, kind: usize, most: usize)
+    requires { TaskOk p.now × (kind < most_types) × (0 < instances_of p.now kind) × Slotted p.now.ops p.now.interval (type_of p.now) kind d.old z.now }
+    ensures { Keeps (PlanOf p.now) p.now.ops d.old d.new }
 {
-    let resource = p.resource;
     let case = Case {
         ops: p.ops,
         interval: p.interval,
@@ -65,19 +61,15 @@ fn type_saturation(p: Task, d: &mut Domain, z: &SlotRows, kind: usize, most: usi
         most,
         kind,
     };
-    let used = used_slots(z, &resource, p.ops, kind);
+    let used = used_slots(z, &p.resource, p.ops, kind);
     let mut touch = touches(z, p.ops);
     let mut reach = reach_zero(z, p.ops, p.interval);
-    let mut s: usize = 0;
-    while s < p.interval {
-        if used[s] {
-            if slot_saturation(case, d, z, &mut touch, &resource, &used, &reach, s) {
-                *d = [[false; MOST_STARTS]; MOST_OPERATIONS];
-                return;
-            }
+    for s in 0..p.interval {
+        if used[s] && slot_saturation(case, d, z, &mut touch, &p.resource, &used, &reach, s) {
+            *d = [[false; MOST_STARTS]; MOST_OPERATIONS];
+            return;
         }
         reach = stepped(&reach, z, s, p.ops, p.interval);
-        s += 1;
     }
 }
 
@@ -95,43 +87,30 @@ fn crowded(most: usize, interval: usize, instances: usize, busy: usize) -> bool
 }
 
 // Rule 2 for this type, if it is limited.
-fn limited_saturation(p: Task, d: &mut Domain, kind: usize)
-    requires { TaskOk p × (kind < most_types) }
-    ensures { Keeps (PlanOf p) p.ops d.old d.new }
+fn limited_saturation(p: &Task, d: &mut Domain, kind: usize)
+    requires { TaskOk p.now × (kind < most_types) }
+    ensures { Keeps (PlanOf p.now) p.now.ops d.old d.new }
 {
-    if 0 < p.instances[kind] {
-        let resource = p.resource;
-        let most = task::count_of(&resource, p.ops, kind);
-        if crowded(most, p.interval, p.instances[kind], p.busy[kind]) {
-            *d = [[false; MOST_STARTS]; MOST_OPERATIONS];
-            return;
-        }
-        if p.instances[kind] < most {
-            let z = slot_rows(d, &resource, p.ops, p.interval, kind);
-            type_saturation(p, d, &z, kind, most);
-        }
+    let instances = p.instances[kind];
+    if instances == 0 {
+        return;
+    }
+    let most = task::count_of(&p.resource, p.ops, kind);
+    if crowded(most, p.interval, instances, p.busy[kind]) {
+        *d = [[false; MOST_STARTS]; MOST_OPERATIONS];
+        return;
+    }
+    if instances < most {
+        let z = slot_rows(d, &p.resource, p.ops, p.interval, kind);
+        type_saturation(p, d, &z, kind, most);
     }
 }
 
 // Whether the row of an operation of this type changed.
-fn changed_in(
-    resource: &[usize; MOST_OPERATIONS],
-    changed: &[bool; MOST_OPERATIONS],
-    ops: usize,
-    kind: usize,
-) -> bool
-    requires { ops ≤ most_operations }
+fn changed_in(p: &Task, changed: &[bool; MOST_OPERATIONS], kind: usize) -> bool
+    requires { p.now.ops ≤ most_operations }
 {
-    let mut i: usize = 0;
-    while i < ops {
-        if changed[i] {
-            if resource[i] == kind {
-                return true;
-            }
-        }
-        i += 1;
-    }
-    false
+    (0..p.ops).any(|i| changed[i] && p.resource[i] == kind)
 }
 
 // Rule 2 for each type of which a row changed. Left free: how many of the starts that no plan has go, and the rows past
@@ -140,12 +119,9 @@ pub fn saturation(p: Task, d: &mut Domain, changed: [bool; MOST_OPERATIONS])
     requires { TaskOk p }
     ensures { Keeps (PlanOf p) p.ops d.old d.new }
 {
-    let resource = p.resource;
-    let mut kind: usize = 0;
-    while kind < MOST_TYPES {
-        if changed_in(&resource, &changed, p.ops, kind) {
-            limited_saturation(p, d, kind);
+    for kind in 0..MOST_TYPES {
+        if changed_in(&p, &changed, kind) {
+            limited_saturation(&p, d, kind);
         }
-        kind += 1;
     }
 }

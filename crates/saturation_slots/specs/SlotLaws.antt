@@ -1,15 +1,14 @@
 -- Laws of slots: how far one is after another, and the slots that the rows of a type reach. Assumes nothing.
-use Rattle.std.specs.Prelude.{◌≡◌, ℕ, ◌+◌, ◌-◌, ◌%◌, ◌<◌, ◌≤◌, Bool, true, false, cond, ◌≢◌, ◌⊎◌, List, length, ◌==◌, nat_lt, slice_set, refl}
-use Rattle.std.proofs.Common.{sym, ap, ◌∙◌, inl, inr, ⊎_elim, arith, mod-eq_of_lt, eq-eqb, ltb-true, ltb-false, le-ltb}
-use Rattle.std.proofs.Math.Decide.{ℕ_discrete, dec_lt}
+use Rattle.std.specs.Prelude.{◌≡◌, ℕ, ◌+◌, ◌-◌, ◌%◌, ◌<◌, ◌≤◌, Bool, true, false, cond, ◌≢◌, ◌⊎◌, List, nat_lt, refl}
+use Rattle.std.proofs.Common.{sym, ap, ◌∙◌, inl, inr, ⊎_elim, arith, mod-eq_of_lt, ltb-true, ltb-false, le-ltb}
+use Rattle.std.proofs.Math.Decide.{dec_lt}
 use Rattle.std.proofs.Math.Nat.{mod-add-mod}
-use Rattle.sizes.specs.Sizes.{most_starts, most_intervals}
+use Rattle.sizes.specs.Sizes.{most_starts}
 use Rattle.laws.specs.Z.{true_false}
-use Rattle.laws.specs.Store.{store}
-use Rattle.domain.specs.Domain.{has, row_of}
+use Rattle.domain.specs.Domain.{has}
 use Rattle.held_slots.specs.Held.{off}
 use Rattle.held_slots.specs.HeldLaws.{off_spec, off_below}
-use Rattle.saturation_slots.specs.Saturation.{slot_at, Either, WithBlock, Merged, StepOne}
+use Rattle.saturation_slots.specs.Saturation.{slot_at, WithBlock, StepOne}
 
 pub slot_spec : (l s w : ℕ) → s < l → w < l → ((s + w < l) × (slot_at l s w ≡ s + w)) ⊎ ((l ≤ s + w) × (slot_at l s w ≡ s + w - l))
 slot_spec l s w hs hw = go (nat_lt (s + w) l) refl
@@ -27,10 +26,6 @@ off_next l s b hb hs ne = ⊎_elim (λ x. ⊎_elim (λ y. omega (arith, x.0, x.1
 
 pub off_zero : (l b : ℕ) → off l 0 b ≡ b
 off_zero l b = rw (le-ltb b 0 (omega arith)) (omega arith)
-
--- one slot more of a block: what was there stays
-pub slots_stay : (s : ℕ) (u seen : List Bool) {a e : Bool} → s < length seen → Either a (has seen s) e → ((k : ℕ) → has u k ≡ true → has seen k ≡ true) → (k : ℕ) → has u k ≡ true → has (slice_set seen s e) k ≡ true
-slots_stay s u seen {e = e} h x c k y = store (λ j z. has u j ≡ true → z ≡ true) seen s e false h (λ q. x.two (c s q)) k (λ _. c k) y
 
 -- the start m + k of a block has slot k
 block_slot : (l m k : ℕ) → m % l ≡ 0 → m ≤ k → k < m + l → k % l ≡ k - m
@@ -55,24 +50,6 @@ off_at l s w hs hw = ⊎_elim (λ x. at (slot_at l s w) (omega (arith, x.0, x.1)
     at : (c : ℕ) → c < l → ((s + w < l) × (c ≡ s + w)) ⊎ ((l ≤ s + w) × (c ≡ s + w - l)) → off l s c ≡ w
     at c hc (inl x) = ⊎_elim (λ y. absurd (omega (arith, x.0, x.1, y.0))) (λ y. omega (arith, x.0, x.1, y.0, y.1)) (off_spec l s c hc hs)
     at c hc (inr x) = ⊎_elim (λ y. omega (arith, x.0, x.1, y.0, y.1)) (λ y. absurd (omega (arith, x.0, x.1, y.0))) (off_spec l s c hc hs)
-
-pub used_more : (n : ℕ) (ty : ℕ → ℕ) (r : ℕ) (z : List (List Bool)) (u out : List Bool) (i : ℕ) → ((k : ℕ) → k < i → ty k ≡ r → (b : ℕ) → b < most_intervals → has (row_of z k) b ≡ true → has u b ≡ true) → Merged (ty i == r) u (row_of z i) out → (k : ℕ) → k < i + 1 → ty k ≡ r → (b : ℕ) → b < most_intervals → has (row_of z k) b ≡ true → has out b ≡ true
-used_more n ty r z u out i c m k l e b h y = pick (ℕ_discrete k i)
-  where
-    pick : Dec (k ≡ i) → has out b ≡ true
-    pick (yes q) = m.new (eq-eqb _ _ (sym (ap ty q) ∙ e)) b h (sym (ap (λ (j : ℕ). has (row_of z j) b) q) ∙ y)
-    pick (no q) = m.old b h (c k (omega arith) e b h y)
-
-pub far_more : (row : List Bool) (b far r : ℕ) → far ≤ b → ((k : ℕ) → k < b → has row k ≡ true → k < far) → (has row b ≡ true → r ≡ b + 1) × (has row b ≡ false → r ≡ far) → (r ≤ b + 1) × ((k : ℕ) → k < b + 1 → has row k ≡ true → k < r)
-far_more row b far r h c x = go (has row b) refl
-  where
-    go : (y : Bool) → has row b ≡ y → (r ≤ b + 1) × ((k : ℕ) → k < b + 1 → has row k ≡ true → k < r)
-    go true e = (omega (arith, x.0 e), λ k m q. omega (arith, x.0 e))
-    go false e = (omega (arith, x.1 e), λ k m q. at k m q (ℕ_discrete k b))
-      where
-        at : (k : ℕ) → k < b + 1 → has row k ≡ true → Dec (k ≡ b) → k < r
-        at k m q (yes w) = true_false (sym q ∙ ap (has row) w ∙ e)
-        at k m q (no w) = omega (arith, x.1 e, c k (omega arith) q)
 
 pub reach_step : (l s : ℕ) (row : List Bool) (old new : ℕ) → s + 1 < l → ((b : ℕ) → b < l → has row b ≡ true → off l s b < old) → StepOne (has row s) l old new → (b : ℕ) → b < l → has row b ≡ true → off l (s + 1) b < new
 reach_step l s row old new h c k b hb y = go (has row s) refl

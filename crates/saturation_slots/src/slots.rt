@@ -3,7 +3,7 @@
 ghost use Rattle.std.specs.Prelude.{◌≡◌, ℕ, ◌+◌, ◌<◌, ◌≤◌, true, false, length};
 ghost use Rattle.sizes.specs.Sizes.{most_operations, most_starts, most_intervals};
 ghost use Rattle.laws.specs.Entry.{vec};
-ghost use Rattle.saturation_slots.specs.Saturation.{slot_at, SlotRow, Lesser, WithBlock, SlotIf, Slotted, Either, Merged, UsedBy, FarRow, Reach, StepOne};
+ghost use Rattle.saturation_slots.specs.Saturation.{slot_at, SlotRow, WithBlock, Slotted, WithSlots, UsedBy, FarRow, Reach, StepOne};
 
 use domain::{Domain, Row};
 use sizes::{MOST_INTERVALS, MOST_OPERATIONS, MOST_STARTS};
@@ -18,38 +18,26 @@ pub fn slot_at(interval: usize, s: usize, w: usize) -> usize
     requires { (s < interval) × (w < interval) × (interval ≤ most_intervals) }
     ensures { (result ≡ slot_at interval s w) × (result < most_intervals) }
 {
-    if s + w < interval {
-        return s + w;
+    let slot = s + w;
+    if slot < interval {
+        slot
+    } else {
+        slot - interval
     }
-    s + w - interval
-}
-
-pub fn either(a: bool, b: bool) -> bool
-    ensures { Either a b result }
-{
-    if a { true } else { b }
-}
-
-pub fn lesser(a: usize, b: usize) -> usize
-    ensures { Lesser a b result }
-{
-    if a < b { a } else { b }
 }
 
 // The slots, with those of a row's starts from a multiple of the interval on, as many as it has slots.
 fn add_block(seen: &mut Slots, row: &Row, base: usize, interval: usize)
-    requires { (base < most_starts) × (interval ≤ most_intervals) × (length seen.old ≡ most_intervals) }
+    requires { (base < most_starts) × (interval ≤ most_intervals) }
     ensures { WithBlock interval base row.now seen.old seen.new }
 {
-    let end = lesser(interval, MOST_STARTS - base);
-    let mut s: usize = 0;
-    while s < end {
-        seen[s] = either(row[base + s], seen[s]);
-        s += 1;
+    for s in 0..interval.min(MOST_STARTS - base) {
+        seen[s] |= row[base + s];
     }
 }
 
 // The slots of a row's starts.
+#[tactic(auto, using(crate::specs::SlotLaws::block_more))]
 fn slot_row(row: &Row, interval: usize) -> Slots
     requires { (0 < interval) × (interval ≤ most_intervals) }
     ensures { SlotRow interval row.now result }
@@ -61,17 +49,6 @@ fn slot_row(row: &Row, interval: usize) -> Slots
         base += interval;
     }
     seen
-}
-
-// The same, if the operation is of the type.
-fn slot_row_if(same: bool, row: &Row, interval: usize) -> Slots
-    requires { (0 < interval) × (interval ≤ most_intervals) }
-    ensures { SlotIf same interval row.now result }
-{
-    if same {
-        return slot_row(row, interval);
-    }
-    [false; MOST_INTERVALS]
 }
 
 // The slots of the starts of each operation of this type.
@@ -86,28 +63,21 @@ pub fn slot_rows(
     ensures { Slotted ops interval (vec resource.now) kind d.now result }
 {
     let mut z = [[false; MOST_INTERVALS]; MOST_OPERATIONS];
-    let mut i: usize = 0;
-    while i < ops {
-        z[i] = slot_row_if(resource[i] == kind, &d[i], interval);
-        i += 1;
+    for i in 0..ops {
+        if resource[i] == kind {
+            z[i] = slot_row(&d[i], interval);
+        }
     }
     z
 }
 
-// The slots of both, if the operation with these slots is of the type.
-fn merged(same: bool, used: &Slots, slots: &Slots) -> Slots
-    ensures { Merged same used.now slots.now result }
+// The slots of one operation more.
+fn add_slots(used: &mut Slots, slots: &Slots)
+    ensures { WithSlots used.old slots.now used.new }
 {
-    if same {
-        let mut out = [false; MOST_INTERVALS];
-        let mut b: usize = 0;
-        while b < MOST_INTERVALS {
-            out[b] = either(slots[b], used[b]);
-            b += 1;
-        }
-        return out;
+    for (b, flag) in used.iter_mut().enumerate() {
+        *flag |= slots[b];
     }
-    *used
 }
 
 // The slots that operations of this type may still use.
@@ -121,20 +91,12 @@ pub fn used_slots(
     ensures { UsedBy ops (vec resource.now) kind z.now result }
 {
     let mut used = [false; MOST_INTERVALS];
-    let mut i: usize = 0;
-    while i < ops {
-        let next = merged(resource[i] == kind, &used, &z[i]);
-        used = next;
-        i += 1;
+    for i in 0..ops {
+        if resource[i] == kind {
+            add_slots(&mut used, &z[i]);
+        }
     }
     used
-}
-
-fn farther(flag: bool, at: usize, far: usize) -> usize
-    requires { at < most_intervals }
-    ensures { (flag ≡ true → result ≡ at + 1) × (flag ≡ false → result ≡ far) }
-{
-    if flag { at + 1 } else { far }
 }
 
 // One past the last slot of an operation.
@@ -142,14 +104,10 @@ fn far_row(slots: &Slots, interval: usize) -> usize
     requires { interval ≤ most_intervals }
     ensures { FarRow interval slots.now result }
 {
-    let mut far: usize = 0;
-    let mut b: usize = 0;
-    while b < interval {
-        let next = farther(slots[b], b, far);
-        far = next;
-        b += 1;
-    }
-    far
+    slots[..interval]
+        .iter()
+        .rposition(|slot| *slot)
+        .map_or(0, |last| last + 1)
 }
 
 // How far from slot 0 each operation's slots reach.
@@ -158,10 +116,8 @@ pub fn reach_zero(z: &SlotRows, ops: usize, interval: usize) -> [usize; MOST_OPE
     ensures { Reach ops interval 0 z.now result }
 {
     let mut reach = [0usize; MOST_OPERATIONS];
-    let mut i: usize = 0;
-    while i < ops {
+    for i in 0..ops {
         reach[i] = far_row(&z[i], interval);
-        i += 1;
     }
     reach
 }
@@ -171,9 +127,10 @@ fn step_one(here: bool, interval: usize, old: usize) -> usize
     ensures { StepOne here interval old result }
 {
     if here {
-        return interval;
+        interval
+    } else {
+        old.saturating_sub(1)
     }
-    if 0 < old { old - 1 } else { 0 }
 }
 
 // How far from the next slot they reach.
@@ -188,10 +145,8 @@ pub fn stepped(
     ensures { s + 1 < interval → Reach ops interval (s + 1) z.now result }
 {
     let mut out = [0usize; MOST_OPERATIONS];
-    let mut i: usize = 0;
-    while i < ops {
+    for i in 0..ops {
         out[i] = step_one(z[i][s], interval, reach[i]);
-        i += 1;
     }
     out
 }

@@ -2,26 +2,15 @@
 ghost use Rattle.std.specs.Prelude.{ℕ, ◌<◌, ◌≤◌};
 ghost use Rattle.sizes.specs.Sizes.{most_operations, most_intervals};
 
-use crate::slots::{SlotRows, Slots, lesser, slot_at};
+use crate::slots::{SlotRows, Slots, slot_at};
 use sizes::MOST_INTERVALS;
 
 pub type Touches = [u8; MOST_INTERVALS];
 
-// A slot more, which so many operations touch.
-pub fn more(touched: u32, here: u8) -> u32 {
-    std::num::wrapping_add_u32(touched, here as u32)
-}
-
-fn one_if(flag: bool) -> u8 {
-    if flag { 1 } else { 0 }
-}
-
 // One operation more, with these slots.
 fn add_touches(touch: &mut Touches, slots: &Slots) {
-    let mut b: usize = 0;
-    while b < MOST_INTERVALS {
-        touch[b] = std::num::wrapping_add_u8(touch[b], one_if(slots[b]));
-        b += 1;
+    for (b, count) in touch.iter_mut().enumerate() {
+        *count = count.wrapping_add(u8::from(slots[b]));
     }
 }
 
@@ -30,10 +19,8 @@ pub fn touches(z: &SlotRows, ops: usize) -> Touches
     requires { ops ≤ most_operations }
 {
     let mut touch = [0u8; MOST_INTERVALS];
-    let mut i: usize = 0;
-    while i < ops {
-        add_touches(&mut touch, &z[i]);
-        i += 1;
+    for slots in &z[..ops] {
+        add_touches(&mut touch, slots);
     }
     touch
 }
@@ -43,11 +30,7 @@ pub fn touches(z: &SlotRows, ops: usize) -> Touches
 pub fn forget(touch: &mut Touches, wide: usize, s: usize, interval: usize)
     requires { (s < interval) × (interval ≤ most_intervals) }
 {
-    let end = lesser(wide, interval);
-    let mut w: usize = 0;
-    while w < end {
-        let b = slot_at(interval, s, w);
-        touch[b] = 0;
-        w += 1;
+    for w in 0..wide.min(interval) {
+        touch[slot_at(interval, s, w)] = 0;
     }
 }

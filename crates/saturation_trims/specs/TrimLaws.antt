@@ -16,7 +16,7 @@ use Rattle.laws.specs.Count.{tally}
 use Rattle.held_slots.specs.Held.{off}
 use Rattle.held_slots.specs.Circle.{type_room}
 use Rattle.saturation_slots.specs.declared.Case.{Case}
-use Rattle.saturation_slots.specs.Saturation.{slot_at, Crowded, Slotted, UsedBy, Reach, Fits, Barred, BarredIn, SlotCut, WithoutSlot, Trimmed, Drained}
+use Rattle.saturation_slots.specs.Saturation.{slot_at, Crowded, Slotted, UsedBy, Reach, Fits, NoRoom, NoRoomIn, Bars, BarsIn, SlotCut, WithoutSlot, Trimmed, Drained}
 use Rattle.saturation_slots.specs.SlotLaws.{off_at}
 
 -- one start of the slot less; past the end nothing is stored, so that the row's length needs no word
@@ -54,11 +54,11 @@ drained_next {n} {r} {s} {l} ty {bar} {d} {e} i {row} h y k z = pick (dec_lt i (
     }
     pick (no m) = subst (Drained n ty r s l bar d) (sym (set_out e i row (omega arith))) k
 
-pub slot_fail : {c : Case} {ty : ℕ → ℕ} {s : ℕ} {used : List Bool} {reach bar : List ℕ} {d out : List (List Bool)} {f : Bool} → BarredIn c ty s used reach f bar → f ≡ true → SlotCut c ty s used reach d out true
-slot_fail {c} {ty} {s} {used} {reach} {bar} k e = record { bar = bar; barred = subst (λ (f : Bool). BarredIn c ty s used reach f bar) e k; drained = λ x. true_false x }
+pub slot_fail : {c : Case} {ty : ℕ → ℕ} {s : ℕ} {used : List Bool} {reach : List ℕ} {d out : List (List Bool)} → NoRoomIn c ty s used reach → SlotCut c ty s used reach d out true
+slot_fail k = record { fails = λ _. k; cuts = λ x. true_false x }
 
-pub slot_cut : {c : Case} {ty : ℕ → ℕ} {s : ℕ} {used : List Bool} {reach bar : List ℕ} {d out : List (List Bool)} {f : Bool} → BarredIn c ty s used reach f bar → f ≡ false → Drained c.ops ty c.kind s c.interval bar d out → SlotCut c ty s used reach d out false
-slot_cut {c} {ty} {s} {used} {reach} {bar} k e z = record { bar = bar; barred = subst (λ (f : Bool). BarredIn c ty s used reach f bar) e k; drained = λ _. z }
+pub slot_cut : {c : Case} {ty : ℕ → ℕ} {s : ℕ} {used : List Bool} {reach bar : List ℕ} {d out : List (List Bool)} → BarsIn c ty s used reach bar → Drained c.ops ty c.kind s c.interval bar d out → SlotCut c ty s used reach d out false
+slot_cut {bar = bar} k z = record { fails = λ x. true_false (sym x); cuts = λ _. (bar, k, z) }
 
 pub fits_all : {n l r s : ℕ} (ty : ℕ → ℕ) {ok z : List (List Bool)} {used : List Bool} {reach : List ℕ} {t : ℕ → ℕ} → 0 < l → l ≤ most_intervals → Slotted n l ty r ok z → UsedBy n ty r z used → Reach n l s z reach → In n ok t → Fits n ty l r s used reach t
 fits_all {n} {l} {r} {s} ty {ok} {z} {used} {reach} {t} p m a b c h = record {
@@ -70,11 +70,11 @@ module _ (p : Task) (good : TaskOk p) (r s : ℕ) (small : r < most_types) (limi
   fit : (t : ℕ → ℕ) → In p.ops ok t → Fits p.ops (type_of p) p.interval r s used reach t
   fit t h = fits_all (type_of p) good.interval_ok good.interval_max a b c h
 
-  pub bars_none : {bar : List ℕ} {f : Bool} → Barred p.ops (type_of p) p.interval (instances_of p r) (busy_of p r) r s used reach f bar → f ≡ true → (t : ℕ → ℕ) → PlanOf p t → In p.ops ok t → ⊥
-  bars_none k e t pl h = true_false (sym e ∙ (k.safe t (record { room = plan_room p good t pl r small limited }) (fit t h)).0)
+  pub bars_none : NoRoom p.ops (type_of p) p.interval (instances_of p r) (busy_of p r) r s used reach → (t : ℕ → ℕ) → PlanOf p t → In p.ops ok t → ⊥
+  bars_none k t pl h = k.none t (record { room = plan_room p good t pl r small limited }) (fit t h)
 
-  pub bars_keep : {bar : List ℕ} {f : Bool} {d out : List (List Bool)} → Barred p.ops (type_of p) p.interval (instances_of p r) (busy_of p r) r s used reach f bar → Keeps (PlanOf p) p.ops ok d → Drained p.ops (type_of p) r s p.interval bar d out → Keeps (PlanOf p) p.ops ok out
-  bars_keep k q u = record { within = within_trans u.within q.within; kept = λ t pl h. u.stays t (q.kept t pl h) (k.safe t (record { room = plan_room p good t pl r small limited }) (fit t h)).1 }
+  pub bars_keep : {bar : List ℕ} {d out : List (List Bool)} → Bars p.ops (type_of p) p.interval (instances_of p r) (busy_of p r) r s used reach bar → Keeps (PlanOf p) p.ops ok d → Drained p.ops (type_of p) r s p.interval bar d out → Keeps (PlanOf p) p.ops ok out
+  bars_keep k q u = record { within = within_trans u.within q.within; kept = λ t pl h. u.stays t (q.kept t pl h) (k.safe t (record { room = plan_room p good t pl r small limited }) (fit t h)) }
 
 pub crowded_none : (p : Task) (r : ℕ) {most : ℕ} {b : Bool} → TaskOk p → r < most_types → 0 < instances_of p r → most ≡ tally p.ops (λ i. eqb (type_of p i) r) → Crowded most p.interval (instances_of p r) (busy_of p r) b → b ≡ true → (t : ℕ → ℕ) → PlanOf p t → ⊥
 crowded_none p r good h limited m c e t q =

@@ -1,15 +1,15 @@
 // Where a stretch of slots is full, the starts of the other operations in it are taken off.
 // An inner layer, a crate of its own for the check's time. Caller: `saturation`, with a type of a task whose numbers are
-// within its arrays (`CaseOk`).
+// within its arrays (the ghost fields of `Case`).
 #![tactic(auto)]
 
 ghost use Rattle.std.specs.Prelude.{ℕ, ◌+◌, ◌≤◌, ◌<◌};
 ghost use Rattle.sizes.specs.Sizes.{most_intervals};
 ghost use Rattle.laws.specs.Entry.{vec};
-ghost use Rattle.saturation_slots.specs.Saturation.{CaseOk, WithoutSlot, Trimmed, Drained};
+ghost use Rattle.saturation_slots.specs.Saturation.{WithoutSlot, Trimmed, Drained};
 
 use domain::{Domain, Row};
-use saturation_slots::{Case, SlotRows, Slots, either, lesser, slot_at};
+use saturation_slots::{Case, SlotRows, Slots, slot_at};
 use sizes::{MOST_OPERATIONS, MOST_STARTS};
 
 // The row without the starts of one slot.
@@ -30,16 +30,13 @@ fn trim(row: &mut Row, slots: &Slots, bar: usize, s: usize, interval: usize) -> 
     requires { (s < interval) × (interval ≤ most_intervals) }
     ensures { Trimmed bar s interval row.old row.new }
 {
-    let end = lesser(bar, interval);
     let mut cut = false;
-    let mut w: usize = 0;
-    while w < end {
+    for w in 0..bar.min(interval) {
         let b = slot_at(interval, s, w);
         if slots[b] {
             without_slot(row, b, interval);
             cut = true;
         }
-        w += 1;
     }
     cut
 }
@@ -53,20 +50,14 @@ pub fn drained(
     bar: &[usize; MOST_OPERATIONS],
     s: usize,
 ) -> bool
-    requires { CaseOk case × (s < case.interval) }
+    requires { s < case.interval }
     ensures { Drained case.ops (vec resource.now) case.kind s case.interval bar.now d.old d.new }
 {
-    let ops = case.ops;
-    let kind = case.kind;
-    let interval = case.interval;
     let mut cut = false;
-    let mut i: usize = 0;
-    while i < ops {
-        if resource[i] == kind {
-            let here = trim(&mut d[i], &z[i], bar[i], s, interval);
-            cut = either(here, cut);
+    for i in 0..case.ops {
+        if resource[i] == case.kind {
+            cut |= trim(&mut d[i], &z[i], bar[i], s, case.interval);
         }
-        i += 1;
     }
     cut
 }
