@@ -20,18 +20,11 @@ use task::PAIRS;
 fn any_two_sided(lag: &[i32; PAIRS], near: &[bool; PAIRS], ops: usize, i: usize) -> bool
     requires { (ops ≤ most_operations) × (i < ops) }
 {
-    let mut j: usize = 0;
-    while j < ops {
+    (0..ops).any(|j| {
         let there = i * MOST_OPERATIONS + j;
         let back = j * MOST_OPERATIONS + i;
-        if near[there] {
-            if two_sided(shifted(lag[there]), shifted(lag[back])) {
-                return true;
-            }
-        }
-        j += 1;
-    }
-    false
+        near[there] && two_sided(shifted(lag[there]), shifted(lag[back]))
+    })
 }
 
 // Rule 1 from operation i to each operation near it; which rows changed, without promise. Left free: how many of the
@@ -50,8 +43,7 @@ pub fn spread(
     let least = domain::least(d[i]);
     let end = domain::end_of(d[i]);
     let mut changed = [false; MOST_OPERATIONS];
-    let mut j: usize = 0;
-    while j < ops {
+    for j in 0..ops {
         let there = i * MOST_OPERATIONS + j;
         let back = j * MOST_OPERATIONS + i;
         if near[there] {
@@ -61,7 +53,6 @@ pub fn spread(
             changed[j] = domain::differ(&d[j], &row);
             d[j] = row;
         }
-        j += 1;
     }
     changed
 }

@@ -2,7 +2,6 @@
 // number here is negative: starts x and t keep the shifted lag s if x + s <= t + MOST_STARTS.
 ghost use Rattle.std.specs.Prelude.{◌≡◌, ◌-◌, ◌≤◌};
 ghost use Rattle.sizes.specs.Sizes.{most_starts};
-ghost use Rattle.domain.specs.Domain.{Under};
 ghost use Rattle.support.specs.Support.{Shifted, Earlier, Filled, NextFrom, SupportedBy, most_shift};
 
 use domain::Row;
@@ -30,18 +29,12 @@ pub type NextStarts = [u16; ENTRIES];
 pub fn shifted(lag: i32) -> usize
     ensures { Shifted lag result }
 {
-    if lag <= NO_LAG {
-        return 0;
-    }
-    if NEVER_LAG <= lag {
-        return MOST_SHIFT;
-    }
-    (lag + NEVER_LAG) as usize
+    (lag.clamp(NO_LAG, NEVER_LAG) + NEVER_LAG) as usize
 }
 
 // Whether both shifted lags of a pair ask something. No promise: it only tells which way is worth taking.
 pub fn two_sided(there: usize, back: usize) -> bool {
-    if 0 < there { 0 < back } else { false }
+    0 < there && 0 < back
 }
 
 fn earlier(b: bool, a: u16, later: u16) -> u16
@@ -55,11 +48,7 @@ fn filled(next: NextStarts, first: u16) -> NextStarts
     ensures { Filled next first result }
 {
     let mut out = next;
-    let mut k: usize = 0;
-    while k < MOST_STARTS {
-        out[k] = first;
-        k += 1;
-    }
+    out[..MOST_STARTS].fill(first);
     out
 }
 
@@ -69,13 +58,10 @@ fn next_starts(row: Row) -> NextStarts
 {
     let mut next = [NONE_NEXT; ENTRIES];
     let mut later = NONE_NEXT;
-    let mut a = MOST_STARTS;
-    while 0 < a {
-        let t = a - 1;
+    for t in (0..MOST_STARTS).rev() {
         let k = t + MOST_STARTS;
         later = earlier(row[t], k as u16, later);
         next[k] = later;
-        a = t;
     }
     filled(next, later)
 }
@@ -90,13 +76,6 @@ pub fn next_starts_if(wanted: bool, row: Row) -> NextStarts
     [0; ENTRIES]
 }
 
-// The flag, where a is below the limit.
-fn sooner(flag: bool, a: u16, limit: u16) -> bool
-    ensures { Under flag a limit result }
-{
-    if a < limit { flag } else { false }
-}
-
 // By both lags: a start stays if the least start of the other row that is late enough for it is early enough.
 fn supported_both(next: &NextStarts, row: Row, there: usize, back: usize) -> Row
     requires { (there ≤ most_shift) × (back ≤ most_shift) }
@@ -104,20 +83,11 @@ fn supported_both(next: &NextStarts, row: Row, there: usize, back: usize) -> Row
 {
     let mut limit = (MOST_SHIFT + 1 - there) as u16;
     let mut out = row;
-    let mut t: usize = 0;
-    while t < MOST_STARTS {
-        out[t] = sooner(row[t], next[t + back], limit);
+    for t in 0..MOST_STARTS {
+        out[t] = next[t + back] < limit && row[t];
         limit += 1;
-        t += 1;
     }
     out
-}
-
-// How much a is over b, or 0.
-fn over(a: usize, b: usize) -> usize
-    ensures { result ≡ a - b }
-{
-    if a < b { 0 } else { a - b }
 }
 
 // The starts of `row` that the other row supports, of which are known its next starts, its least start and one past its
@@ -138,7 +108,7 @@ pub fn supported(
         return supported_both(next, row, there, back);
     }
     if back == 0 {
-        return domain::from_start(row, over(least + there, MOST_STARTS));
+        return domain::from_start(row, (least + there).saturating_sub(MOST_STARTS));
     }
-    domain::below(row, over(end + MOST_STARTS, back))
+    domain::below(row, (end + MOST_STARTS).saturating_sub(back))
 }
