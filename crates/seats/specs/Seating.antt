@@ -40,10 +40,11 @@ key_of c i = vec c.pin i * most_operations + i
 pub record Within (from key best : ℕ) (r : Bool) : Type 0 where
   pub yes : r ≡ true → (from ≤ key) × (key < best)
 
--- an operation with a pin whose key is not below `from`, or the number of operations
+-- operation x has a pin, and its key is not below `from`
 pub record NextPin (c : Case) (from x : ℕ) : Type 0 where
-  pub small : x ≤ c.ops
-  pub next : x < c.ops → (vec c.pin x < c.interval) × (from ≤ key_of c x)
+  pub op : x < c.ops
+  pub pinned : vec c.pin x < c.interval
+  pub key : from ≤ key_of c x
 
 -- ---- what is known of the instances
 
@@ -126,9 +127,9 @@ pub record Roomy (c : Case) (s : Seats) (k : ℕ) : Type 0 where
 
 -- ---- the search for seats
 
--- where b is false no filling has such instances, by the operations whose keys are below `from`
-pub record Seating (c : Case) (from : ℕ) (s : Seats) (b : Bool) : Type 0 where
-  pub no : b ≡ false → (f : Filling c) → Kept c f from s → ⊥
+-- no filling has such instances, by the operations whose keys are below `from`
+pub record Unseated (c : Case) (from : ℕ) (s : Seats) : Type 0 where
+  pub no : (f : Filling c) → Kept c f from s → ⊥
 
 -- each that has gives operation x an instance from v on
 pub record Left (c : Case) (from : ℕ) (s : Seats) (x v : ℕ) : Type 0 where

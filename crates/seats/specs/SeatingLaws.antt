@@ -1,6 +1,6 @@
 -- Laws of rule 3, all instances: how many operations they take; no choice of instances is left out; a domain without
 -- one has no plan. Assumes nothing.
-use Rattle.std.specs.Prelude.{◌≡◌, Bool, true, false, cond, ◌⊎◌, ◌≢◌, List, ℕ, ◌+◌, ◌-◌, ◌/◌, ◌≤◌, ◌<◌, ltb, set, length, replicate}
+use Rattle.std.specs.Prelude.{IfSome, Option, None, Some, is_some, ◌≡◌, Bool, true, false, cond, ◌⊎◌, ◌≢◌, List, ℕ, ◌+◌, ◌-◌, ◌/◌, ◌≤◌, ◌<◌, ltb, set, length, replicate}
 use Rattle.std.proofs.Common.{sym, subst, inl, inr, arith, div-le_self, get_or-set_same, get_or-set_other}
 use Rattle.std.proofs.Math.Logic.{⊎_elim}
 use Rattle.std.proofs.Math.Decide.{ℕ_discrete, dec_lt}
@@ -8,6 +8,7 @@ use Rattle.std.proofs.Math.Dec.{eqb}
 use borrow.Author.Tests.{eqb-true, eq-eqb, ltb-true, lt-ltb, le-ltb}
 use Rattle.sizes.specs.Sizes.{most_types, most_instances}
 use Rattle.laws.specs.Entry.{vec}
+use Rattle.laws.specs.Z.{true_false}
 use Rattle.laws.specs.Store.{all_zero}
 use Rattle.laws.specs.Swap.{swap, swap_below, swap_same, swap_keep, swap_kept, swap_here}
 use Rattle.laws.specs.Count.{tally, tally_some, tally_le, tally_cover, both_true, both_show}
@@ -16,7 +17,7 @@ use Rattle.task.specs.declared.Task.{Task}
 use Rattle.task.specs.Plan.{type_of, instances_of, busy_of}
 use Rattle.seats.specs.declared.Case.{Case}
 use Rattle.seats.specs.declared.Seats.{Seats}
-use Rattle.seats.specs.Seating.{CaseOk, SeatsOk, key_of, NextPin, with_pin, with_instance, Filling, on, slot, between, Holds, Kept, OneRoom, Roomy, Seating, Left, Pins, Hopeless}
+use Rattle.seats.specs.Seating.{CaseOk, SeatsOk, key_of, NextPin, with_pin, with_instance, Filling, on, slot, between, Holds, Kept, OneRoom, Roomy, Unseated, Left, Pins, Hopeless}
 use Rattle.seats.specs.HoldLaws.{between_show, between_yes, hold_later, hold_new, hold_room, hold_more, hold_clash}
 
 -- ---- an entry of a list that is written
@@ -132,8 +133,8 @@ module _ (c : Case) (f : Filling c) (z w : ℕ) (hz : z < c.instances) (hw : w <
 -- ---- the instances for one operation
 
 module _ (c : Case) (from : ℕ) (s : Seats) where
-  pub seating_room : {k : ℕ} → Roomy c s k → k < c.total → Seating c from s false
-  seating_room z h = record { no = λ _ f q. absurd (omega (arith, f.many, z.most f from q)) }
+  pub seating_room : {k : ℕ} → Roomy c s k → k < c.total → Unseated c from s
+  seating_room z h = record { no = λ f q. absurd (omega (arith, f.many, z.most f from q)) }
 
   pub left_none : (x : ℕ) → Left c from s x 0
   left_none x = record { left = λ f q. omega arith }
@@ -145,41 +146,41 @@ module _ (c : Case) (from : ℕ) (s : Seats) where
       pick f q (yes e) = absurd (never f q e)
       pick f q (no e) = omega (arith, l.left f q)
 
-  pub seating_full : {x : ℕ} → x < c.ops → NextPin c from x → c.instances ≤ s.used → Left c from s x s.used → Seating c from s false
-  seating_full {x} hx z h l = record { no = λ _ f q. absurd (omega (arith, l.left f q, f.seated.below x hx (f.pinned x hx (z.next hx).0).0)) }
+  pub seating_full : {x : ℕ} → x < c.ops → NextPin c from x → c.instances ≤ s.used → Left c from s x s.used → Unseated c from s
+  seating_full {x} hx z h l = record { no = λ f q. absurd (omega (arith, l.left f q, f.seated.below x hx (f.pinned x hx z.pinned).0)) }
 
   module _ (ok : CaseOk c) (x : ℕ) (hx : x < c.ops) (z : NextPin c from x) where
     at : (f : Filling c) → slot c f x ≡ vec c.pin x
-    at f = (f.pinned x hx (z.next hx).0).1
+    at f = (f.pinned x hx z.pinned).1
 
     there : (f : Filling c) (v : ℕ) → f.u x ≡ v → on c f v x ≡ true
-    there f v e = both_show _ _ (eq-eqb _ _ (f.pinned x hx (z.next hx).0).0) (eq-eqb _ _ e)
+    there f v e = both_show _ _ (eq-eqb _ _ (f.pinned x hx z.pinned).0) (eq-eqb _ _ e)
 
     -- an instance that is not free there
     pub left_clash : {v : ℕ} → v < s.used → (vec c.pin x < vec s.last v + c.busy) ⊎ (vec s.first v + c.interval < vec c.pin x + c.busy) → Left c from s x v → Left c from s x (v + 1)
-    left_clash {v} h q l = left_step l (λ f k e. hold_clash c ok f v from (vec s.first v) (vec s.last v) (vec s.taken v) (k.each v h) x (vec c.pin x) hx (there f v e) (at f) (z.next hx).1 q)
+    left_clash {v} h q l = left_step l (λ f k e. hold_clash c ok f v from (vec s.first v) (vec s.last v) (vec s.taken v) (k.each v h) x (vec c.pin x) hx (there f v e) (at f) z.key q)
 
     -- one that was tried
-    pub left_tried : {v : ℕ} {g : Bool} → v < s.used → v < length s.last → v < length s.taken → Seating c (key_of c x + 1) (with_pin s c.busy v (vec c.pin x)) g → g ≡ false → Left c from s x v → Left c from s x (v + 1)
-    left_tried {v} h ll lt y not l = left_step l (λ f k e. y.no not f (record { each = λ w m. pick f k e w m (ℕ_discrete w v) }))
+    pub left_tried : {v : ℕ} → v < s.used → v < length s.last → v < length s.taken → Unseated c (key_of c x + 1) (with_pin s c.busy v (vec c.pin x)) → Left c from s x v → Left c from s x (v + 1)
+    left_tried {v} h ll lt y l = left_step l (λ f k e. y.no f (record { each = λ w m. pick f k e w m (ℕ_discrete w v) }))
       where
         pick : (f : Filling c) → Kept c f from s → f.u x ≡ v → (w : ℕ) → w < s.used → Dec (w ≡ v) → Holds c f w (key_of c x + 1) (vec s.first w) (vec (set s.last v (vec c.pin x)) w) (vec (set s.taken v (vec s.taken v + (vec c.pin x - vec s.last v) / c.busy)) w)
         pick f k e w m (yes q) = subst (λ (j : ℕ). Holds c f j (key_of c x + 1) (vec s.first j) (vec (set s.last v (vec c.pin x)) j) (vec (set s.taken v (vec s.taken v + (vec c.pin x - vec s.last v) / c.busy)) j)) (sym q)
-            (rw (get_or-set_same s.last v (vec c.pin x) 0 ll, get_or-set_same s.taken v (vec s.taken v + (vec c.pin x - vec s.last v) / c.busy) 0 lt) (hold_more c ok f v from (vec s.first v) (vec s.last v) (vec s.taken v) (k.each v h) x (vec c.pin x) hx (there f v e) (at f) (z.next hx).1))
-        pick f k e w m (no q) = rw (get_or-set_other s.last v w (vec c.pin x) 0 q, get_or-set_other s.taken v w (vec s.taken v + (vec c.pin x - vec s.last v) / c.busy) 0 q) (hold_later c f (let y = (z.next hx).1 in omega arith) (k.each w m))
+            (rw (get_or-set_same s.last v (vec c.pin x) 0 ll, get_or-set_same s.taken v (vec s.taken v + (vec c.pin x - vec s.last v) / c.busy) 0 lt) (hold_more c ok f v from (vec s.first v) (vec s.last v) (vec s.taken v) (k.each v h) x (vec c.pin x) hx (there f v e) (at f) z.key))
+        pick f k e w m (no q) = rw (get_or-set_other s.last v w (vec c.pin x) 0 q, get_or-set_other s.taken v w (vec s.taken v + (vec c.pin x - vec s.last v) / c.busy) 0 q) (hold_later c f (let y = z.key in omega arith) (k.each w m))
 
     -- a new instance: any other is as good
-    pub seating_new : {g : Bool} → s.used < c.instances → s.used < length s.first → s.used < length s.last → s.used < length s.taken → Seating c (key_of c x + 1) (with_instance s (vec c.pin x)) g → Left c from s x s.used → Seating c from s g
+    pub seating_new : s.used < c.instances → s.used < length s.first → s.used < length s.last → s.used < length s.taken → Unseated c (key_of c x + 1) (with_instance s (vec c.pin x)) → Left c from s x s.used → Unseated c from s
     unfolding turned
-    seating_new h lf ll lt y l = record { no = λ not f k. y.no not (turned c f s.used (f.u x) h (own f)) (record { each = λ w m. pick f k w m (ℕ_discrete w s.used) }) }
+    seating_new h lf ll lt y l = record { no = λ f k. y.no (turned c f s.used (f.u x) h (own f)) (record { each = λ w m. pick f k w m (ℕ_discrete w s.used) }) }
       where
         own : (f : Filling c) → f.u x < c.instances
-        own f = f.seated.below x hx (f.pinned x hx (z.next hx).0).0
+        own f = f.seated.below x hx (f.pinned x hx z.pinned).0
 
         pick : (f : Filling c) → Kept c f from s → (w : ℕ) → w < s.used + 1 → Dec (w ≡ s.used) → Holds c (turned c f s.used (f.u x) h (own f)) w (key_of c x + 1) (vec (set s.first s.used (vec c.pin x)) w) (vec (set s.last s.used (vec c.pin x)) w) (vec (set s.taken s.used 0) w)
         pick f k w m (yes q) = subst (λ (j : ℕ). Holds c (turned c f s.used (f.u x) h (own f)) j (key_of c x + 1) (vec (set s.first s.used (vec c.pin x)) j) (vec (set s.last s.used (vec c.pin x)) j) (vec (set s.taken s.used 0) j)) (sym q)
             (rw (get_or-set_same s.first s.used (vec c.pin x) 0 lf, get_or-set_same s.last s.used (vec c.pin x) 0 ll, get_or-set_same s.taken s.used 0 0 lt) (hold_new c (turned c f s.used (f.u x) h (own f)) {v = s.used} {from = key_of c x + 1} {s = vec c.pin x} {x = x} (record { here = hx; there = there (turned c f s.used (f.u x) h (own f)) s.used (swap_here s.used (f.u x)); at = at f; key = omega arith })))
-        pick f k w m (no q) = rw (get_or-set_other s.first s.used w (vec c.pin x) 0 q, get_or-set_other s.last s.used w (vec c.pin x) 0 q, get_or-set_other s.taken s.used w 0 0 q) (hold_later c (turned c f s.used (f.u x) h (own f)) (let y = (z.next hx).1 in omega arith) (hold_turned c f s.used (f.u x) h (own f) q (λ e. absurd (let y = l.left f k in omega arith)) (k.each w (omega arith))))
+        pick f k w m (no q) = rw (get_or-set_other s.first s.used w (vec c.pin x) 0 q, get_or-set_other s.last s.used w (vec c.pin x) 0 q, get_or-set_other s.taken s.used w 0 0 q) (hold_later c (turned c f s.used (f.u x) h (own f)) (let y = z.key in omega arith) (hold_turned c f s.used (f.u x) h (own f) q (λ e. absurd (let y = l.left f k in omega arith)) (k.each w (omega arith))))
 
 -- ---- the domain
 
@@ -199,9 +200,9 @@ seats_none c = record {
 abbrev pub case_of : Task → ℕ → ℕ → List ℕ → Case
 case_of p r total pin = record { ops = p.ops; interval = p.interval; instances = instances_of p r; busy = busy_of p r; total = total; pin = pin }
 
-pub hopeless_show : (p : Task) (r : ℕ) {d : List (List Bool)} {pin : List ℕ} {total : ℕ} {b : Bool} → r < most_types → 0 < instances_of p r → Pins p.ops p.interval (type_of p) r d pin → total ≡ tally p.ops (λ i. eqb (type_of p i) r) → Seating (case_of p r total pin) 0 no_seats b → b ≡ false → Hopeless p d true
-hopeless_show p r {d} {pin} h a z e s not = record {
-  yes = λ _ t pl q. let w = pl.seated r h a in s.no not
+pub hopeless_show : (p : Task) (r : ℕ) {d : List (List Bool)} {pin : List ℕ} {total : ℕ} → r < most_types → 0 < instances_of p r → Pins p.ops p.interval (type_of p) r d pin → total ≡ tally p.ops (λ i. eqb (type_of p i) r) → Unseated (case_of p r total pin) 0 no_seats → Hopeless p d true
+hopeless_show p r {d} {pin} h a z e s = record {
+  yes = λ _ t pl q. let w = pl.seated r h a in s.no
       (record {
         ty = type_of p;
         r = r;
@@ -213,3 +214,7 @@ hopeless_show p r {d} {pin} h a z e s not = record {
       })
       (record { each = λ v m. absurd (omega arith) });
 }
+
+pub hopeless_some : (p : Task) {d : List (List Bool)} (o : Option ℕ) → IfSome o (λ _. Hopeless p d true) → Hopeless p d (is_some o)
+hopeless_some p None h = record { yes = λ e. true_false (sym e) }
+hopeless_some p (Some x) h = h

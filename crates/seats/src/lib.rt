@@ -5,11 +5,11 @@
 // Caller: `narrow`, with a task of which its own caller proves `TaskOk`.
 #![tactic(auto)]
 
-ghost use Rattle.std.specs.Prelude.{◌≡◌, true, false, ℕ, ◌+◌, ◌*◌, ◌/◌, ◌-◌, ◌≤◌, ◌<◌};
+ghost use Rattle.std.specs.Prelude.{◌≡◌, true, ℕ, ◌+◌, ◌*◌, ◌/◌, ◌-◌, ◌≤◌, ◌<◌, IfSome};
 ghost use Rattle.sizes.specs.Sizes.{most_types, most_instances, most_intervals};
 ghost use Rattle.laws.specs.Entry.{vec};
 ghost use Rattle.task.specs.Plan.{TaskOk, PlanOf, instances_of, busy_of};
-ghost use Rattle.seats.specs.Seating.{CaseOk, SeatsOk, Within, NextPin, Free, OneRoom, Roomy, with_pin, with_instance, Seating, Hopeless};
+ghost use Rattle.seats.specs.Seating.{CaseOk, SeatsOk, Within, NextPin, Free, OneRoom, Roomy, with_pin, with_instance, Unseated, Hopeless};
 
 mod pins;
 
@@ -40,13 +40,6 @@ struct Seats {
     taken: [usize; MOST_INSTANCES],
 }
 
-// What `seat` answers, and how many calls are left.
-#[derive(Clone, Copy)]
-struct Answer {
-    yes: bool,
-    left: usize,
-}
-
 // The calls of `seat` for one type.
 const MOST_CALLS: usize = 5000;
 
@@ -54,27 +47,25 @@ const MOST_CALLS: usize = 5000;
 fn nearer(from: usize, key: usize, best: usize) -> bool
     ensures { Within from key best result }
 {
-    if from <= key { key < best } else { false }
+    from <= key && key < best
 }
 
-// The next operation with a pin, by slot and then by number, from the key `from` on; or `ops`. A key is a slot times
+// The next operation with a pin, by slot and then by number, from the key `from` on. A key is a slot times
 // MOST_OPERATIONS and an operation.
-fn next_pin(case: Case, from: usize) -> usize
+fn next_pin(case: Case, from: usize) -> Option<usize>
     requires { CaseOk case }
-    ensures { NextPin case from result }
+    ensures { IfSome result (λ x. NextPin case from x) }
 {
-    let mut x = case.ops;
+    let mut next = None;
     let mut best = case.interval * MOST_OPERATIONS;
-    let mut i: usize = 0;
-    while i < case.ops {
+    for i in 0..case.ops {
         let key = case.pin[i] * MOST_OPERATIONS + i;
         if nearer(from, key, best) {
-            x = i;
+            next = Some(i);
             best = key;
         }
-        i += 1;
     }
-    x
+    next
 }
 
 // Whether an instance whose first and last pins are so is free for `busy` slots from slot s on, not before them.
@@ -82,11 +73,7 @@ fn free(interval: usize, busy: usize, first: usize, last: usize, s: usize) -> bo
     requires { (interval ≤ most_intervals) × (busy ≤ interval) × (first ≤ interval) × (last ≤ interval) × (s ≤ interval) }
     ensures { Free interval busy first last s result }
 {
-    if last + busy <= s {
-        s + busy <= first + interval
-    } else {
-        false
-    }
+    last + busy <= s && s + busy <= first + interval
 }
 
 // How many operations an instance takes: what is counted from its first pin to its last, and what fits from there round
@@ -103,9 +90,10 @@ fn one_room(
     ensures { OneRoom some interval busy first last taken result × (result ≤ 3 * most_intervals) }
 {
     if some {
-        return taken + (interval + first - last) / busy;
+        taken + (interval + first - last) / busy
+    } else {
+        interval / busy
     }
-    interval / busy
 }
 
 // How many operations the instances take in all.
@@ -114,18 +102,15 @@ fn room(case: Case, seats: Seats) -> usize
     ensures { Roomy case seats result }
 {
     let mut c: usize = 0;
-    let mut v: usize = 0;
-    while v < case.instances {
-        let some = v < seats.used;
+    for v in 0..case.instances {
         c += one_room(
-            some,
+            v < seats.used,
             case.interval,
             case.busy,
             seats.first[v],
             seats.last[v],
             seats.taken[v],
         );
-        v += 1;
     }
     c
 }
@@ -135,18 +120,10 @@ fn with_pin(seats: Seats, busy: usize, v: usize, s: usize) -> Seats
     requires { (v < most_instances) × (1 ≤ busy) × (s ≤ most_intervals) × (vec seats.last v ≤ s) × (vec seats.taken v ≤ most_intervals) }
     ensures { result ≡ with_pin seats busy v s }
 {
-    let used = seats.used;
-    let first = seats.first;
-    let mut last = seats.last;
-    last[v] = s;
-    let mut taken = seats.taken;
-    taken[v] = seats.taken[v] + (s - seats.last[v]) / busy;
-    Seats {
-        used,
-        first,
-        last,
-        taken,
-    }
+    let mut out = seats;
+    out.taken[v] += (s - seats.last[v]) / busy;
+    out.last[v] = s;
+    out
 }
 
 // What is known with a pin at slot s on an instance that had none.
@@ -155,57 +132,38 @@ fn with_instance(seats: Seats, s: usize) -> Seats
     ensures { result ≡ with_instance seats s }
 {
     let v = seats.used;
-    let mut first = seats.first;
-    first[v] = s;
-    let mut last = seats.last;
-    last[v] = s;
-    let mut taken = seats.taken;
-    taken[v] = 0;
-    let used = v + 1;
-    Seats {
-        used,
-        first,
-        last,
-        taken,
-    }
+    let mut out = seats;
+    out.first[v] = s;
+    out.last[v] = s;
+    out.taken[v] = 0;
+    out.used = v + 1;
+    out
 }
 
-// Whether the operations with a pin from the key `from` on can be given instances such that there is room for all of
-// the type. Where the calls run out, that they can.
-fn seat(case: Case, from: usize, seats: Seats, fuel: usize) -> Answer
+// The calls that are left where the operations with a pin from the key `from` on cannot be given instances such that
+// there is room for all of the type; None where they can, or the calls run out.
+fn seat(case: Case, from: usize, seats: Seats, fuel: usize) -> Option<usize>
     requires { CaseOk case × SeatsOk case seats }
-    ensures { Seating case from seats result.yes }
+    ensures { IfSome result (λ _. Unseated case from seats) }
 {
-    if fuel == 0 {
-        return Answer { yes: true, left: 0 };
-    }
-    let mut left = fuel - 1;
+    let mut left = fuel.checked_sub(1)?;
     if room(case, seats) < case.total {
-        return Answer { yes: false, left };
+        return Some(left);
     }
-    let x = next_pin(case, from);
-    if case.ops <= x {
-        return Answer { yes: true, left };
-    }
+    let x = next_pin(case, from)?;
     let s = case.pin[x];
     let after = s * MOST_OPERATIONS + x + 1;
-    let mut v: usize = 0;
-    while v < seats.used {
+    for v in 0..seats.used {
         if free(case.interval, case.busy, seats.first[v], seats.last[v], s) {
             let more = with_pin(seats, case.busy, v, s);
-            let h = seat(case, after, more, left);
-            if h.yes {
-                return h;
-            }
-            left = h.left;
+            left = seat(case, after, more, left)?;
         }
-        v += 1;
     }
     if seats.used < case.instances {
         let more = with_instance(seats, s);
         return seat(case, after, more, left);
     }
-    Answer { yes: false, left }
+    Some(left)
 }
 
 // Whether the rule is for a type with these instances and busy slots: it is limited, and stays busy for more than one
@@ -213,12 +171,7 @@ fn seat(case: Case, from: usize, seats: Seats, fuel: usize) -> Answer
 fn worth(instances: usize, busy: usize, interval: usize) -> bool
     ensures { result ≡ true → (0 < instances) × (1 < busy) × (busy ≤ interval) }
 {
-    if 0 < instances {
-        if 1 < busy {
-            return busy <= interval;
-        }
-    }
-    false
+    0 < instances && 1 < busy && busy <= interval
 }
 
 // Whether there is no plan in the domain, as far as the seats of this type tell.
@@ -245,11 +198,7 @@ fn type_hopeless(p: Task, d: &Domain, kind: usize) -> bool
         last: [0; MOST_INSTANCES],
         taken: [0; MOST_INSTANCES],
     };
-    let b = seat(case, 0, none, MOST_CALLS);
-    if b.yes {
-        return false;
-    }
-    true
+    seat(case, 0, none, MOST_CALLS).is_some()
 }
 
 // Whether there is no plan in the domain, as far as rule 3 tells. Left free: when it answers false, which is always
@@ -258,15 +207,10 @@ pub fn hopeless(p: Task, d: &Domain) -> bool
     requires { TaskOk p }
     ensures { Hopeless p d.now result }
 {
-    let interval = p.interval;
-    let mut kind: usize = 0;
-    while kind < MOST_TYPES {
-        if worth(p.instances[kind], p.busy[kind], interval) {
-            if type_hopeless(p, d, kind) {
-                return true;
-            }
+    for kind in 0..MOST_TYPES {
+        if worth(p.instances[kind], p.busy[kind], p.interval) && type_hopeless(p, d, kind) {
+            return true;
         }
-        kind += 1;
     }
     false
 }

@@ -12,14 +12,12 @@ fn pin_of(same: bool, row: Row, interval: usize) -> usize
     requires { (0 < interval) × (interval ≤ most_intervals) }
     ensures { PinOf same row interval result }
 {
-    if same {
-        let t = domain::least(row);
-        if domain::other_class(row, t, interval) {
-            return MOST_INTERVALS;
-        }
-        return t % interval;
+    let t = domain::least(row);
+    if !same || domain::other_class(row, t, interval) {
+        MOST_INTERVALS
+    } else {
+        t % interval
     }
-    MOST_INTERVALS
 }
 
 // The only slot of each operation of this type that is down to one, else MOST_INTERVALS.
@@ -34,10 +32,8 @@ pub fn pins(
     ensures { Pins ops interval (vec resource) kind d.now result }
 {
     let mut pin = [MOST_INTERVALS; MOST_OPERATIONS];
-    let mut i: usize = 0;
-    while i < ops {
+    for i in 0..ops {
         pin[i] = pin_of(resource[i] == kind, d[i], interval);
-        i += 1;
     }
     pin
 }
