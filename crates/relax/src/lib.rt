@@ -19,17 +19,12 @@ fn limit(instances: usize, busy: usize, slots: usize) -> usize
     requires { (instances ≤ most_operations) × (slots ≤ most_intervals) }
     ensures { Limit instances busy slots result }
 {
-    if instances == 0 {
-        return 0;
-    }
     if busy == 1 {
         let total = instances * slots;
-        if total < MOST_OPERATIONS {
-            return total;
-        }
-        return MOST_OPERATIONS;
+        total.min(MOST_OPERATIONS)
+    } else {
+        0
     }
-    0
 }
 
 // The same for each type of a task.
@@ -38,10 +33,8 @@ fn limits(p: Task, slots: usize) -> [usize; MOST_TYPES]
     ensures { Limits p slots result }
 {
     let mut out = [0usize; MOST_TYPES];
-    let mut kind: usize = 0;
-    while kind < MOST_TYPES {
+    for kind in 0..MOST_TYPES {
         out[kind] = limit(p.instances[kind], p.busy[kind], slots);
-        kind += 1;
     }
     out
 }
@@ -52,9 +45,8 @@ pub fn coarse(p: Task, m: usize) -> Task
     requires { TaskOk p × (0 < m) × (p.interval % m ≡ 0) }
     ensures { Relaxed p result }
 {
-    let instances = limits(p, p.interval / m);
     let mut q = p;
     q.interval = m;
-    q.instances = instances;
+    q.instances = limits(p, p.interval / m);
     q
 }
