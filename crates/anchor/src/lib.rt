@@ -29,13 +29,7 @@ const NO_LAG: i32 = -(MOST_STARTS as i32);
 fn close(same: bool, there: i32, back: i32) -> bool
     ensures { Close same there back result }
 {
-    if same {
-        return true;
-    }
-    if there < REACH_BACK {
-        return false;
-    }
-    REACH_BACK <= back
+    same || REACH_BACK <= there && REACH_BACK <= back
 }
 
 // The operations within REACH of operation i in every plan, as far as the lags tell. Left free: which of them it names.
@@ -43,14 +37,11 @@ pub fn cluster(p: Task, i: usize) -> [bool; MOST_OPERATIONS]
     requires { TaskOk p × (i < p.ops) }
     ensures { Cluster p i result }
 {
-    let count = p.ops;
     let mut c = [false; MOST_OPERATIONS];
-    let mut j: usize = 0;
-    while j < count {
+    for j in 0..p.ops {
         let there = i * MOST_OPERATIONS + j;
         let back = j * MOST_OPERATIONS + i;
         c[j] = close(i == j, p.lag[there], p.lag[back]);
-        j += 1;
     }
     c
 }
@@ -59,10 +50,7 @@ pub fn cluster(p: Task, i: usize) -> [bool; MOST_OPERATIONS]
 fn inner_type(inside: bool, resource: usize) -> usize
     ensures { InnerType inside resource result }
 {
-    if inside {
-        return resource;
-    }
-    NO_TYPE
+    if inside { resource } else { NO_TYPE }
 }
 
 // The types of the operations of the cluster; none elsewhere.
@@ -75,10 +63,8 @@ fn inner_types(
     ensures { InnerTypes count c resource result }
 {
     let mut out = [NO_TYPE; MOST_OPERATIONS];
-    let mut j: usize = 0;
-    while j < count {
+    for j in 0..count {
         out[j] = inner_type(c[j], resource[j]);
-        j += 1;
     }
     out
 }
@@ -87,12 +73,7 @@ fn inner_types(
 fn inner_lag(from: bool, to: bool, lag: i32) -> i32
     ensures { InnerLag from to lag result }
 {
-    if from {
-        if to {
-            return lag;
-        }
-    }
-    NO_LAG
+    if from && to { lag } else { NO_LAG }
 }
 
 // The lags within the cluster, row by row.
@@ -100,37 +81,19 @@ fn inner_lags(c: [bool; MOST_OPERATIONS], lag: [i32; PAIRS]) -> [i32; PAIRS]
     ensures { InnerLags c lag result }
 {
     let mut out = [0i32; PAIRS];
-    let mut k: usize = 0;
-    while k < PAIRS {
-        let i = k / MOST_OPERATIONS;
-        let j = k % MOST_OPERATIONS;
-        let z = inner_lag(c[i], c[j], lag[i * MOST_OPERATIONS + j]);
-        out[k] = z;
-        k += 1;
+    for k in 0..PAIRS {
+        out[k] = inner_lag(c[k / MOST_OPERATIONS], c[k % MOST_OPERATIONS], lag[k]);
     }
     out
 }
 
-// Whether a pair in the cluster is worth a look: it was so before, or one of the two is the anchor. No promise.
-fn inner_pair(inside: bool, near: bool, anchor: bool) -> bool {
-    if inside {
-        if near {
-            return true;
-        }
-        return anchor;
-    }
-    false
-}
-
-// The pairs in the cluster that are worth a look. No promise.
+// The pairs in the cluster that are worth a look: they were so before, or one of the two is the anchor. No promise.
 fn inner_near(c: [bool; MOST_OPERATIONS], near: [bool; PAIRS], i: usize) -> [bool; PAIRS] {
-    let mut out = [false; PAIRS];
-    let mut k: usize = 0;
-    while k < PAIRS {
+    let mut out = near;
+    for (k, pair) in out.iter_mut().enumerate() {
         let a = k / MOST_OPERATIONS;
         let b = k % MOST_OPERATIONS;
-        out[k] = inner_pair(c[a] && c[b], near[k], a == i || b == i);
-        k += 1;
+        *pair = c[a] && c[b] && (*pair || a == i || b == i);
     }
     out
 }
@@ -140,16 +103,10 @@ pub fn anchored(p: Task, i: usize, c: [bool; MOST_OPERATIONS]) -> Task
     requires { TaskOk p × (i < p.ops) × Cluster p i c }
     ensures { Anchored p i c result }
 {
-    let types = p.resource;
-    let lags = p.lag;
-    let pairs = p.near;
-    let resource = inner_types(p.ops, c, types);
-    let lag = inner_lags(c, lags);
-    let near = inner_near(c, pairs, i);
     let mut q = p;
-    q.resource = resource;
-    q.lag = lag;
-    q.near = near;
+    q.resource = inner_types(p.ops, c, p.resource);
+    q.lag = inner_lags(c, p.lag);
+    q.near = inner_near(c, p.near, i);
     q
 }
 
@@ -157,13 +114,13 @@ pub fn anchored(p: Task, i: usize, c: [bool; MOST_OPERATIONS]) -> Task
 fn anchor_row(inside: bool, anchor: bool) -> Row
     ensures { AnchorRow inside anchor result }
 {
-    if inside {
-        if anchor {
-            return domain::only(ANCHOR);
-        }
-        return [true; MOST_STARTS];
+    if !inside {
+        domain::only(0)
+    } else if anchor {
+        domain::only(ANCHOR)
+    } else {
+        [true; MOST_STARTS]
     }
-    domain::only(0)
 }
 
 // The first domain for the task of the cluster c of operation i. Left free: what other starts a row has.
@@ -171,10 +128,8 @@ pub fn anchor_rows(i: usize, c: [bool; MOST_OPERATIONS]) -> Domain
     ensures { AnchorRows i c result }
 {
     let mut d = [[false; MOST_STARTS]; MOST_OPERATIONS];
-    let mut j: usize = 0;
-    while j < MOST_OPERATIONS {
+    for j in 0..MOST_OPERATIONS {
         d[j] = anchor_row(c[j], i == j);
-        j += 1;
     }
     d
 }
