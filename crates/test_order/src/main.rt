@@ -3,8 +3,9 @@
 // each list of 24. Each number is one character: its code less that of 0. A tilde is the greatest number there is.
 #![tactic(auto)]
 
-use plan::{Schedule, Verdict};
+use plan::Schedule;
 use sizes::MOST_OPERATIONS;
+use std::cmp::Ordering;
 use std::io;
 
 // The most bytes of standard input that are looked at.
@@ -44,11 +45,11 @@ fn numbers(s: &[u8]) -> [usize; MOST_OPERATIONS] {
     list
 }
 
-fn print(rt: &impl Print, verdict: Verdict) -> io::Result<()> {
+fn print(rt: &impl Print, verdict: Ordering) -> io::Result<()> {
     match verdict {
-        Verdict::Before => rt.write_all(b"before\n"),
-        Verdict::Equal => rt.write_all(b"equal\n"),
-        Verdict::After => rt.write_all(b"after\n"),
+        Ordering::Less => rt.write_all(b"before\n"),
+        Ordering::Equal => rt.write_all(b"equal\n"),
+        Ordering::Greater => rt.write_all(b"after\n"),
     }
 }
 
