@@ -17,22 +17,17 @@ pub fn instance_allowed(sheet: Sheet, op: usize, instance: usize) -> bool
 {
     let limit = instances_of(sheet, op);
     if limit == 0 {
-        return instance == 0;
+        instance == 0
+    } else {
+        instance < limit
     }
-    instance < limit
 }
 
 // Whether two operations are rivals: different, and of one limited type.
 pub fn rivals(sheet: Sheet, i: usize, j: usize) -> bool
     ensures { Says (Rivals sheet i j) result }
 {
-    if i == j {
-        return false;
-    }
-    if resource_of(sheet, i) != resource_of(sheet, j) {
-        return false;
-    }
-    0 < instances_of(sheet, i)
+    i != j && resource_of(sheet, i) == resource_of(sheet, j) && 0 < instances_of(sheet, i)
 }
 
 // The slot of a start: its remainder by the interval. There are no slots at interval 0, where the remainder is the
@@ -50,8 +45,7 @@ pub fn slot_of(interval: usize, start: usize) -> usize
 fn busy_of(sheet: Sheet, op: usize) -> usize
     ensures { result ≡ (type_of sheet op).busy }
 {
-    let kind = type_of(sheet, op);
-    kind.busy
+    type_of(sheet, op).busy
 }
 
 // Whether operation i at the start t and operation j at the start u hold a slot in common, so that they may not share

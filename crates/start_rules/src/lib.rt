@@ -7,7 +7,7 @@ ghost use Rattle.laws.specs.Says.{Says};
 ghost use Rattle.plan.specs.Rules.{MayHold, HoldsAllowed, InHorizon, InWindow, MayStart};
 ghost use Rattle.start_rules.specs.Starts.{RowFor};
 
-use operations::{operation_in, type_in, type_of};
+use operations::{operation_at, type_at, type_of};
 use sheet::{Operation, ResourceType, Sheet};
 use sizes::MOST_STARTS;
 
@@ -16,11 +16,7 @@ use sizes::MOST_STARTS;
 fn in_horizon(horizon: usize, latency: usize, t: usize) -> bool
     ensures { Says (InHorizon horizon latency t) result }
 {
-    if horizon < t {
-        return false;
-    }
-    let left = horizon - t;
-    0 < left && latency <= left
+    t < horizon && latency <= horizon - t
 }
 
 // Whether a start is inside an operation's window.
@@ -35,10 +31,7 @@ fn in_window(operation: Operation, t: usize) -> bool
 fn may_hold(kind: ResourceType, interval: usize, t: usize) -> bool
     ensures { Says (MayHold kind interval t) result }
 {
-    if kind.instances == 0 {
-        return true;
-    }
-    kind.busy <= interval
+    kind.instances == 0 || kind.busy <= interval
 }
 
 // Whether an operation may hold its instance from the start t on.
@@ -58,27 +51,18 @@ fn may_start(
 ) -> bool
     ensures { Says (MayStart horizon kind operation interval t) result }
 {
-    if !in_window(operation, t) {
-        return false;
-    }
-    if !in_horizon(horizon, kind.latency, t) {
-        return false;
-    }
-    may_hold(kind, interval, t)
+    in_window(operation, t) && in_horizon(horizon, kind.latency, t) && may_hold(kind, interval, t)
 }
 
 // The starts that an operation may have, a flag for each.
 pub fn allowed_starts(sheet: Sheet, interval: usize, op: usize) -> [bool; MOST_STARTS]
     ensures { RowFor sheet interval op result }
 {
-    let horizon = sheet.horizon;
-    let ops = sheet.ops;
-    let operation = operation_in(ops, op);
-    let types = sheet.types;
-    let kind = type_in(types, operation.resource);
+    let operation = operation_at(&sheet, op);
+    let kind = type_at(&sheet, operation.resource);
     let mut row = [false; MOST_STARTS];
-    for t in 0..MOST_STARTS {
-        row[t] = may_start(horizon, kind, operation, interval, t);
+    for (t, allowed) in row.iter_mut().enumerate() {
+        *allowed = may_start(sheet.horizon, kind, operation, interval, t);
     }
     row
 }
