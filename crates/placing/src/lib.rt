@@ -10,12 +10,11 @@ ghost use Rattle.placing_table.specs.Table.{Target};
 ghost use Rattle.placing.specs.Answers.{NewAt, AskedToPlace, refused, PlaceAt, no_offer, OfferAt, BookAt, whole};
 ghost use Rattle.placing.specs.Change.{changed};
 
-use placing_table::{Placement, Table, Vacancy};
+use placing_table::{NOTHING, Placement, Table};
 use sheet::Sheet;
 use sizes::MOST_OPERATIONS;
 
 // The answer, and a table in which nothing is placed.
-#[repr(C)]
 #[derive(Clone, Copy)]
 pub struct NewTable {
     pub answer: usize,
@@ -23,7 +22,6 @@ pub struct NewTable {
 }
 
 // The answer, the instance that the operation got, and the table afterwards.
-#[repr(C)]
 #[derive(Clone, Copy)]
 pub struct PlaceAnswer {
     pub answer: usize,
@@ -32,7 +30,6 @@ pub struct PlaceAnswer {
 }
 
 // An operation, a start, and an instance for it.
-#[repr(C)]
 #[derive(Clone, Copy)]
 pub struct Offer {
     pub operation: usize,
@@ -41,7 +38,6 @@ pub struct Offer {
 }
 
 // The answer, and the offer; with a refusal all its numbers are 0.
-#[repr(C)]
 #[derive(Clone, Copy)]
 pub struct OfferAnswer {
     pub answer: usize,
@@ -54,13 +50,8 @@ pub struct OfferAnswer {
 pub fn new_table(sheet: Sheet, interval: usize) -> NewTable
     ensures { NewAt sheet interval result }
 {
-    let nothing = Placement {
-        placed: false,
-        start: 0,
-        instance: 0,
-    };
     let table = Table {
-        entries: [nothing; MOST_OPERATIONS],
+        entries: [NOTHING; MOST_OPERATIONS],
     };
     NewTable {
         answer: questions::asked(sheet, interval),
@@ -74,10 +65,7 @@ pub fn new_table(sheet: Sheet, interval: usize) -> NewTable
 fn target_in_range(sheet: Sheet, op: usize, start: usize) -> bool
     ensures { Says (Target sheet op start) result }
 {
-    if sheet.op_count <= op {
-        return false;
-    }
-    start < sheet.horizon
+    op < sheet.op_count && start < sheet.horizon
 }
 
 // The questions before a placing, which an offer and a booking ask first: 0, or the number of the refusal.
@@ -145,8 +133,8 @@ pub fn make_offer(
         return refuse_offer(refusal);
     }
     match placing_table::lowest_free(sheet, interval, table, op, start) {
-        Vacancy::Full => refuse_offer(13),
-        Vacancy::Lowest(instance) => OfferAnswer {
+        None => refuse_offer(13),
+        Some(instance) => OfferAnswer {
             answer: 0,
             offer: Offer {
                 operation: op,
@@ -203,6 +191,7 @@ pub fn place(sheet: Sheet, interval: usize, table: Table, op: usize, start: usiz
 // ---- placing into a kept table
 
 // What a placing answers besides the table.
+// Kept: leastplan_placed of C is this struct.
 #[repr(C)]
 #[derive(Clone, Copy)]
 pub struct Outcome {

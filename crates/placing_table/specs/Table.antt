@@ -1,13 +1,11 @@
 -- The placing table (modulo reservation table) as its rules read it: what an entry may be, what is taken, what is free,
 -- when the table is consistent.
-use Rattle.std.specs.Prelude.{ℕ, ◌<◌, ◌≤◌, ◌≡◌, true, false, get_or, replicate, set}
+use Rattle.std.specs.Prelude.{ℕ, ◌<◌, ◌≤◌, ◌≡◌, true, false, get_or, replicate, set, Option, MatchOption}
 use Rattle.sizes.specs.Sizes.{most_operations}
 use Rattle.sheet.specs.declared.Sheet.{Sheet}
 use Rattle.plan.specs.Rules.{HoldsAllowed, InstanceAllowed, Rivals, Overlap}
 use Rattle.placing_table.specs.declared.Placement.{Placement}
 use Rattle.placing_table.specs.declared.Table.{Table}
-use Rattle.placing_table.specs.declared.Vacancy.{Vacancy}
-use Rattle.placing_table.specs.declared.Vacancy.TheVariants.{Lowest, Full}
 
 -- an entry where nothing is placed: start and instance are 0
 abbrev pub nothing : Placement
@@ -92,9 +90,8 @@ pub record LowestFree (s : Sheet) (L : ℕ) (table : Table) (op start u : ℕ) :
   pub lowest : (v : ℕ) → Free s L table op start v → u ≤ v
 
 -- which it is, or that there is none
-pub data VacancyAt (s : Sheet) (L : ℕ) (table : Table) (op start : ℕ) : Vacancy → Type 0 where
-  found : {u : ℕ} → LowestFree s L table op start u → VacancyAt s L table op start (Lowest u)
-  none : (SomeFree s L table op start → ⊥) → VacancyAt s L table op start Full
+abbrev pub VacancyAt : Sheet → ℕ → Table → ℕ → ℕ → Option ℕ → Type 0
+VacancyAt s L table op start v = MatchOption v (SomeFree s L table op start → ⊥) (λ u. LowestFree s L table op start u)
 
 -- the table with this one operation placed besides
 abbrev pub placing : Table → ℕ → ℕ → ℕ → Table

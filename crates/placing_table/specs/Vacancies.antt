@@ -1,25 +1,25 @@
 -- The lowest free instance: the instances that an operation may have are below a number, and at most one of them is the
 -- lowest free one. Assumes nothing.
-use Rattle.std.specs.Prelude.{ℕ, ◌<◌, ◌≡◌, refl}
-use Rattle.std.proofs.Common.{arith, sym, ap, subst, ◌∙◌}
+use Rattle.std.specs.Prelude.{ℕ, ◌<◌, ◌≡◌, refl, max, Option, Some, None, MatchOption}
+use Rattle.std.proofs.Common.{arith, sym, ap, ◌∙◌}
+use Rattle.std.proofs.Math.Decide.{ℕ_discrete}
 use Rattle.sheet.specs.declared.Sheet.{Sheet}
 use Rattle.sheet.specs.Sheet.{type_of}
 use Rattle.plan.specs.Rules.{InstanceAllowed}
 use Rattle.placing_table.specs.declared.Table.{Table}
-use Rattle.placing_table.specs.declared.Vacancy.{Vacancy}
-use Rattle.placing_table.specs.declared.Vacancy.TheVariants.{Lowest, Full}
-use Rattle.placing_table.specs.Table.{Free, SomeFree, LowestFree, VacancyAt, found, none}
+use Rattle.placing_table.specs.Table.{Free, SomeFree, LowestFree, VacancyAt}
 
 -- the instances that the rules allow to operation op are below r
 abbrev pub InRoom : Sheet → ℕ → ℕ → Type 0
 InRoom s op r = (u : ℕ) → InstanceAllowed s op u → u < r
 
--- of an unlimited and of a limited type
-pub room_one : {s : Sheet} {op n : ℕ} → n ≡ (type_of s op).instances → n ≡ 0 → InRoom s op 1
-room_one e z u a = omega (arith, a.unlimited (sym e ∙ z))
-
-pub room_many : {s : Sheet} {op n : ℕ} → n ≡ (type_of s op).instances → (n ≡ 0 → ⊥) → InRoom s op n
-room_many {s} {op} e z u a = let l : 0 < (type_of s op).instances = omega arith in omega (arith, a.limited l)
+-- of a limited type as many as it has, of an unlimited one 1
+pub room_most : {s : Sheet} {op n r : ℕ} → n ≡ (type_of s op).instances → r ≡ max n 1 → InRoom s op r
+room_most {s} {op} {n} {r} e q u a = at (ℕ_discrete n 0)
+  where
+    at : Dec (n ≡ 0) → u < r
+    at (yes z) = omega (arith, a.unlimited (sym e ∙ z))
+    at (no z) = let l : 0 < (type_of s op).instances = omega arith in omega (arith, a.limited l)
 
 -- no instance below u is free
 abbrev pub Passed : Sheet → ℕ → Table → ℕ → ℕ → ℕ → Type 0
@@ -38,22 +38,10 @@ module _ {s : Sheet} {L : ℕ} {table : Table} {op start : ℕ} where
       let y = q.lowest u p.free in
       omega arith
 
-  -- what each answer says
-  pub is_lowest : {v : Vacancy} {u : ℕ} → VacancyAt s L table op start v → v ≡ Lowest u → LowestFree s L table op start u
-  is_lowest {v} {u} w e = at (subst (VacancyAt s L table op start) e w)
-    where
-      at : VacancyAt s L table op start (Lowest u) → LowestFree s L table op start u
-      at (found p) = p
-
-  pub is_full : {v : Vacancy} → VacancyAt s L table op start v → v ≡ Full → SomeFree s L table op start → ⊥
-  is_full w e = at (subst (VacancyAt s L table op start) e w)
-    where
-      at : VacancyAt s L table op start Full → SomeFree s L table op start → ⊥
-      at (none n) = n
-
+module _ (s : Sheet) (L : ℕ) (table : Table) (op start : ℕ) where
   -- at most one answer fits
-  pub vacancy_one : {v w : Vacancy} → VacancyAt s L table op start v → VacancyAt s L table op start w → v ≡ w
-  vacancy_one (found p) (found q) = ap Lowest (lowest_one p q)
-  vacancy_one (found p) (none n) = absurd (n (record { instance = _; free = p.free }))
-  vacancy_one (none n) (found q) = absurd (n (record { instance = _; free = q.free }))
-  vacancy_one (none n) (none m) = refl
+  pub vacancy_one : (v w : Option ℕ) → VacancyAt s L table op start v → VacancyAt s L table op start w → v ≡ w
+  vacancy_one (Some u) (Some v) p q = ap Some (lowest_one p q)
+  vacancy_one (Some u) None p n = absurd (n (record { instance = _; free = p.free }))
+  vacancy_one None (Some v) n q = absurd (n (record { instance = _; free = q.free }))
+  vacancy_one None None n m = refl

@@ -15,34 +15,23 @@ fn entry_allowed(sheet: Sheet, interval: usize, i: usize, p: Placement) -> bool
     ensures { Says (EntryAllowed sheet interval i p) result }
 {
     if !p.placed {
-        if p.start != 0 {
-            return false;
-        }
-        return p.instance == 0;
+        return p.start == 0 && p.instance == 0;
     }
-    if sheet.op_count <= i {
-        return false;
-    }
-    if sheet.horizon <= p.start {
-        return false;
-    }
-    if !start_rules::holds_allowed(sheet, interval, i, p.start) {
-        return false;
-    }
-    rules::instance_allowed(sheet, i, p.instance)
+    i < sheet.op_count
+        && p.start < sheet.horizon
+        && start_rules::holds_allowed(sheet, interval, i, p.start)
+        && rules::instance_allowed(sheet, i, p.instance)
 }
 
 // Whether every entry of the table is.
 fn entries_allowed(sheet: Sheet, interval: usize, table: Table) -> bool
     ensures { Says ((i : ℕ) → EntryAllowed sheet interval i (placement_at table i)) result }
 {
-    for i in 0..MOST_OPERATIONS {
-        let p = table.entries[i];
-        if !entry_allowed(sheet, interval, i, p) {
-            return false;
-        }
-    }
-    true
+    table
+        .entries
+        .iter()
+        .enumerate()
+        .all(|(i, p)| entry_allowed(sheet, interval, i, *p))
 }
 
 // Whether operation i, where it is placed, shares its instance with no rival in a slot that both hold.
@@ -51,10 +40,7 @@ fn apart(sheet: Sheet, interval: usize, table: Table, i: usize) -> bool
     ensures { Says (Apart sheet interval table i) result }
 {
     let p = table.entries[i];
-    if !p.placed {
-        return true;
-    }
-    untaken(sheet, interval, table, i, p.start, p.instance)
+    !p.placed || untaken(sheet, interval, table, i, p.start, p.instance)
 }
 
 // Whether no two placed rivals share an instance in a slot that both hold.
@@ -73,8 +59,5 @@ fn all_apart(sheet: Sheet, interval: usize, table: Table) -> bool
 pub fn consistent(sheet: Sheet, interval: usize, table: Table) -> bool
     ensures { Says (Consistent sheet interval table) result }
 {
-    if !entries_allowed(sheet, interval, table) {
-        return false;
-    }
-    all_apart(sheet, interval, table)
+    entries_allowed(sheet, interval, table) && all_apart(sheet, interval, table)
 }

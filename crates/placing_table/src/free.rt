@@ -5,7 +5,7 @@ ghost use Rattle.laws.specs.Says.{Says};
 ghost use Rattle.placing_table.specs.Table.{Taken, Untaken, Free, VacancyAt};
 ghost use Rattle.placing_table.specs.Vacancies.{InRoom};
 
-use crate::{Table, Vacancy};
+use crate::Table;
 use sheet::Sheet;
 use sizes::MOST_OPERATIONS;
 
@@ -23,16 +23,10 @@ fn takes(
     ensures { Says (Taken sheet interval table op start instance j) result }
 {
     let p = table.entries[j];
-    if !p.placed {
-        return false;
-    }
-    if p.instance != instance {
-        return false;
-    }
-    if !rules::overlap(sheet, interval, op, start, j, p.start) {
-        return false;
-    }
-    rules::rivals(sheet, op, j)
+    p.placed
+        && p.instance == instance
+        && rules::overlap(sheet, interval, op, start, j, p.start)
+        && rules::rivals(sheet, op, j)
 }
 
 // Whether no rival holds the instance in a slot that operation op would hold at this start.
@@ -66,35 +60,33 @@ pub fn is_free(
 ) -> bool
     ensures { Says (Free sheet interval table op start instance) result }
 {
-    if !start_rules::holds_allowed(sheet, interval, op, start) {
-        return false;
-    }
-    if !rules::instance_allowed(sheet, op, instance) {
-        return false;
-    }
-    untaken(sheet, interval, table, op, start, instance)
+    start_rules::holds_allowed(sheet, interval, op, start)
+        && rules::instance_allowed(sheet, op, instance)
+        && untaken(sheet, interval, table, op, start, instance)
 }
 
 // A number above all instances that an operation may have: how many its type has, or 1 of an unlimited type.
 fn room(sheet: Sheet, op: usize) -> usize
     ensures { InRoom sheet op result }
 {
-    let limit = operations::instances_of(sheet, op);
-    if limit == 0 {
-        return 1;
-    }
-    limit
+    operations::instances_of(sheet, op).max(1)
 }
 
-// The lowest instance that operation op can get at this start, or that there is none.
-pub fn lowest_free(sheet: Sheet, interval: usize, table: Table, op: usize, start: usize) -> Vacancy
+// The lowest instance that operation op can get at this start, or none where there is none.
+pub fn lowest_free(
+    sheet: Sheet,
+    interval: usize,
+    table: Table,
+    op: usize,
+    start: usize,
+) -> Option<usize>
     ensures { VacancyAt sheet interval table op start result }
 {
     let limit = room(sheet, op);
     for u in 0..limit {
         if is_free(sheet, interval, table, op, start, u) {
-            return Vacancy::Lowest(u);
+            return Some(u);
         }
     }
-    Vacancy::Full
+    None
 }

@@ -12,6 +12,7 @@ pub use entries::consistent;
 pub use free::{is_free, lowest_free};
 
 // Where an operation is placed. Both numbers are 0 where nothing is.
+// Kept: leastplan_placement of C has this flag beside its numbers, and an Option has another layout.
 #[repr(C)]
 #[derive(Clone, Copy)]
 pub struct Placement {
@@ -27,9 +28,9 @@ pub struct Table {
     pub entries: [Placement; MOST_OPERATIONS],
 }
 
-// The lowest instance that is free for an operation at a start, or that none is.
-#[derive(Clone, Copy)]
-pub enum Vacancy {
-    Lowest(usize),
-    Full,
-}
+// An entry where nothing is placed.
+pub const NOTHING: Placement = Placement {
+    placed: false,
+    start: 0,
+    instance: 0,
+};

@@ -22,16 +22,10 @@ pub fn kept_up_to(
     requires { InRange sheet × Interval sheet interval × (n ≤ most_operations) }
     ensures { Says (PlanUpTo sheet interval (vec starts) (vec instances) n) result }
 {
-    if !each_operation::starts_allowed(sheet, interval, starts, n) {
-        return false;
-    }
-    if !each_operation::instances_allowed(sheet, instances, n) {
-        return false;
-    }
-    if !edges::all_met(sheet_graph::graph_of(sheet), interval, starts, n) {
-        return false;
-    }
-    pairs::all_apart(sheet, interval, starts, instances, n)
+    each_operation::starts_allowed(sheet, interval, starts, n)
+        && each_operation::instances_allowed(sheet, instances, n)
+        && edges::all_met(sheet_graph::graph_of(sheet), interval, starts, n)
+        && pairs::all_apart(sheet, interval, starts, instances, n)
 }
 
 // The first operation that breaks a rule, or the count of operations where none does. Entries past the operations play

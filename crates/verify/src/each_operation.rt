@@ -15,11 +15,7 @@ fn start_allowed(sheet: Sheet, interval: usize, op: usize, t: usize) -> bool
     requires { InRange sheet }
     ensures { Says (StartAllowed sheet interval op t) result }
 {
-    if MOST_STARTS <= t {
-        return false;
-    }
-    let row = start_rules::allowed_starts(sheet, interval, op);
-    row[t]
+    t < MOST_STARTS && start_rules::allowed_starts(sheet, interval, op)[t]
 }
 
 // Whether each of the first n operations may have its start.
@@ -32,12 +28,7 @@ pub fn starts_allowed(
     requires { InRange sheet × (n ≤ most_operations) }
     ensures { Says (EachStart sheet interval (vec starts) n) result }
 {
-    for i in 0..n {
-        if !start_allowed(sheet, interval, i, starts[i]) {
-            return false;
-        }
-    }
-    true
+    (0..n).all(|i| start_allowed(sheet, interval, i, starts[i]))
 }
 
 // Whether each of the first n operations may have its instance.

@@ -24,15 +24,7 @@ fn edge_met(graph: Graph, total: i32, starts: [usize; MOST_OPERATIONS], n: usize
     ensures { Says (EdgeMet graph total (vec starts) n k) result }
 {
     let e = graph.edges[k];
-    let i = e.from;
-    let j = e.to;
-    if n <= i {
-        return true;
-    }
-    if n <= j {
-        return true;
-    }
-    met(starts[i], total, starts[j])
+    n <= e.from || n <= e.to || met(starts[e.from], total, starts[e.to])
 }
 
 // Whether the starts keep every dependence among the first n operations.

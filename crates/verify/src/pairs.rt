@@ -20,13 +20,9 @@ fn clash(
     requires { (i < most_operations) × (j < most_operations) }
     ensures { Says (Clash sheet interval (vec starts) (vec instances) i j) result }
 {
-    if instances[i] != instances[j] {
-        return false;
-    }
-    if !rules::rivals(sheet, i, j) {
-        return false;
-    }
-    rules::overlap(sheet, interval, i, starts[i], j, starts[j])
+    instances[i] == instances[j]
+        && rules::rivals(sheet, i, j)
+        && rules::overlap(sheet, interval, i, starts[i], j, starts[j])
 }
 
 // Whether operation i clashes with none before it.
