@@ -68,31 +68,17 @@ fn line_count(s: Sheet, interval: usize, a: PlanAnswer) -> usize
     HEAD_LINES
 }
 
-// How many bytes the lines have.
-pub fn text_length(s: Sheet, interval: usize, a: PlanAnswer) -> usize
-    requires { SmallAnswer s interval a }
-    ensures { result ≡ length (lines_text (interval_lines s interval a)) }
-{
-    let lines = line_count(s, interval, a);
-    let mut total = 0;
-    for i in 0..lines {
-        total += text_line::line_length(line_at(s, interval, a, i));
-    }
-    total
-}
-
 // The lines at the front of `out`, which takes them, and how many bytes they have.
 pub fn fill(out: &mut [u8], s: Sheet, interval: usize, a: PlanAnswer) -> usize
     requires { SmallAnswer s interval a × (length (lines_text (interval_lines s interval a)) ≤ length out.old) }
     ensures value { result ≡ length (lines_text (interval_lines s interval a)) }
     ensures out_after { out.new ≡ over (lines_text (interval_lines s interval a)) out.old }
 {
-    let lines = line_count(s, interval, a);
-    let mut at = 0;
-    for i in 0..lines {
-        at += text_line::put_line(&mut out[at..], line_at(s, interval, a, i));
-    }
-    at
+    text_line::fill_lines(
+        out,
+        line_count(s, interval, a),
+        &|i| line_at(s, interval, a, i),
+    )
 }
 
 // The lines of one interval at the front of `out` and their count of bytes; 9 where they do not fit, and then `out`
@@ -101,12 +87,6 @@ pub fn put_interval(out: &mut [u8], sheet: Sheet, interval: usize, a: PlanAnswer
     requires { SmallAnswer sheet interval a }
     ensures { (result ≡ written_of (plan_text sheet interval a) out.old) × (out.new ≡ buffer_of (plan_text sheet interval a) out.old) }
 {
-    if out.len() < text_length(sheet, interval, a) {
-        return Written {
-            answer: 9,
-            count: 0,
-        };
-    }
-    let count = fill(out, sheet, interval, a);
-    Written { answer: 0, count }
+    let lines = line_count(sheet, interval, a);
+    text_line::put_lines(out, lines, &|i| line_at(sheet, interval, a, i))
 }

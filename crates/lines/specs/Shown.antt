@@ -1,7 +1,7 @@
 -- Laws of a list of lines by value: which line stands where in its text, one line more, and how long the text is.
 -- Assumes nothing.
 use Rattle.std.specs.Prelude.{◌≡◌, refl, ℕ, zero, suc, ◌+◌, ◌*◌, ◌≤◌, ◌<◌, pos, length, get_or, take, set}
-use Rattle.std.proofs.Common.{sym, ◌∙◌, arith, add-one, length-append, length-take, length-set, take_all, take-suc-set, length-take-le, get_or-take, lt-ltb, le-ltb}
+use Rattle.std.proofs.Common.{sym, ◌∙◌, arith, add-one, length-append, length-take, length-set, take-suc-set, get_or-take, lt-ltb, le-ltb}
 use Rattle.std.proofs.Math.Path.{ap}
 use mathlib.Core.List.{List, [], ◌∷◌, ◌++◌, map, flat_map, append_assoc, append-nil}
 use Rattle.std.proofs.Math.Decide.{dec_lt}
@@ -34,6 +34,7 @@ pub shown_text : (ls : Lines) → shown ls ≡ bytes.lines_text (shown_lines ls)
 unfolding shown
 shown_text ls = texts (take ls.count ls.lines)
 
+-- the line at the place i
 text_at : (ls : List Line) (n i : ℕ) (d : Line) → i < length (take n ls) → text_of (get_or ls i d) ≡ bytes.line_text_of (get_or (map bytes_of (take n ls)) i bytes.no_line)
 unfolding text_of
 text_at ls zero i d h = absurd (omega arith)
@@ -41,20 +42,8 @@ text_at [] (suc n) i d h = absurd (omega arith)
 text_at (l ∷ ls) (suc n) zero d h = refl
 text_at (l ∷ ls) (suc n) (suc i) d h = text_at ls n i d (omega arith)
 
-module _ (ls : Lines) {n : ℕ} (e : n ≡ length (take ls.count ls.lines)) where
-  -- the line at the place i
-  pub line_at : (i : ℕ) (d : Line) → i < n → text_of (get_or ls.lines i d) ≡ bytes.line_text_of (get_or (shown_lines ls) i bytes.no_line)
-  line_at i d h = text_at ls.lines ls.count i d (omega arith)
-
-  pub line_total : n ≡ length (shown_lines ls)
-  line_total = e ∙ sym (length-map (take ls.count ls.lines) bytes_of)
-
--- all of the lines, or the first of them
-pub all_lines : (ls : Lines) → length ls.lines ≡ most_lines → most_lines < ls.count → most_lines ≡ length (take ls.count ls.lines)
-all_lines ls e h = sym (ap length (take_all ls.count ls.lines (omega arith)) ∙ e)
-
-pub some_lines : (ls : Lines) → length ls.lines ≡ most_lines → ls.count ≤ most_lines → ls.count ≡ length (take ls.count ls.lines)
-some_lines ls e h = sym (length-take-le ls.count ls.lines (omega arith))
+pub line_at : (ls : Lines) (i : ℕ) (d : Line) → i < length (shown_lines ls) → text_of (get_or ls.lines i d) ≡ bytes.line_text_of (get_or (shown_lines ls) i bytes.no_line)
+line_at ls i d h = text_at ls.lines ls.count i d (omega (arith, length-map (take ls.count ls.lines) bytes_of))
 
 -- ---- no line
 

@@ -5,7 +5,8 @@ use Rattle.std.specs.Prelude.{◌≡◌, refl, List, [], ◌∷◌, ◌++◌, �
 use Rattle.std.proofs.Common.{sym, ap, ◌∙◌, append_assoc, append-nil, arith, add-one, length-append, drop_of_length-le}
 use Rattle.std.proofs.Math.Seq.{drop-cons}
 use Rattle.text.specs.Text.{over, buffer_of}
-use Rattle.text.specs.Line.{count_of}
+use Rattle.text.specs.declared.Line as made
+use Rattle.text.specs.Line.{text_of, count_of}
 use Rattle.text.specs.Lines.{Line, line_text_of, lines_text, no_line}
 use Rattle.text.specs.Sizes.{longest_line}
 use Rattle.text.specs.Progress.{Progress, begin, to, room, next_part, same_size, finish}
@@ -28,6 +29,11 @@ module _ (ls : List Line) (i : ℕ) where
   past : length ls ≤ i → lines_text (drop i ls) ≡ []
   unfolding lines_text
   past h = rw (drop_of_length-le ls h)
+
+-- calls that give the lines, each by its place
+pub record Gives (post : ℕ → made.Line → Type 0) (n : ℕ) (ls : List Line) : Type 0 where
+  pub count : n ≡ length ls
+  pub each : (i : ℕ) → i < n → (l : made.Line) → post i l → text_of l ≡ line_text_of (get_or ls i no_line)
 
 -- ---- into a buffer
 

@@ -9,6 +9,9 @@ ghost use Rattle.text.specs.Sizes.{most_values, greatest_number, longest_line};
 ghost use Rattle.text.specs.Writing.{pasted};
 ghost use Rattle.text.specs.Joined.{value_text};
 
+mod many; // many.rt: many lines by their places
+
+pub use many::{fill_lines, lines_length, put_lines};
 use text::{GREATEST_NUMBER, Key, Line, MOST_VALUES, Written};
 
 // The byte after a number with `more` of them to come.

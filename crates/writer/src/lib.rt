@@ -3,8 +3,8 @@
 
 ghost use Rattle.std.specs.Prelude.{◌≡◌, ◌<◌, ◌≤◌, length, get_or};
 ghost use Rattle.sizes.specs.Sizes.{most_operations, most_starts, most_types};
-ghost use Rattle.text.specs.Text.{over};
-ghost use Rattle.text.specs.Line.{text_of};
+ghost use Rattle.text.specs.Text.{buffer_of};
+ghost use Rattle.text.specs.Line.{text_of, written_of};
 ghost use Rattle.text.specs.Lines.{line_text_of, no_line};
 ghost use Rattle.sheet.specs.Sheet.{InRange, TypeInRange, OpInRange, EdgeInRange};
 ghost use Rattle.sheet.specs.Text.{type_line, op_line, edge_line, sheet_lines, sheet_text};
@@ -96,29 +96,12 @@ fn line_count(s: Sheet) -> usize
 
 // ---- the whole text
 
-fn text_length(s: Sheet) -> usize
+// The text at the front of `out`, or 9 where it does not fit, and then `out` stays as it was.
+fn put_text(s: Sheet, out: &mut [u8]) -> Written
     requires { InRange s }
-    ensures { result ≡ length (sheet_text s) }
+    ensures { (result ≡ written_of (sheet_text s) out.old) × (out.new ≡ buffer_of (sheet_text s) out.old) }
 {
-    let lines = line_count(s);
-    let mut total = 0;
-    for i in 0..lines {
-        total += text_line::line_length(line_at(s, i));
-    }
-    total
-}
-
-// The text at the front of `out`, which takes it, and how many bytes it has.
-fn fill(s: Sheet, out: &mut [u8]) -> usize
-    requires { InRange s × (length (sheet_text s) ≤ length out.old) }
-    ensures { (result ≡ length (sheet_text s)) × (out.new ≡ over (sheet_text s) out.old) }
-{
-    let lines = line_count(s);
-    let mut at = 0;
-    for i in 0..lines {
-        at += text_line::put_line(&mut out[at..], line_at(s, i));
-    }
-    at
+    text_line::put_lines(out, line_count(s), &|i| line_at(s, i))
 }
 
 // The sheet's text at the front of `out` and its count of bytes; what the sheet answers, or 9 where the whole text does
@@ -133,12 +116,5 @@ pub fn write(s: Sheet, out: &mut [u8]) -> Written
             count: 0,
         };
     }
-    if out.len() < text_length(s) {
-        return Written {
-            answer: 9,
-            count: 0,
-        };
-    }
-    let count = fill(s, out);
-    Written { answer: 0, count }
+    put_text(s, out)
 }
