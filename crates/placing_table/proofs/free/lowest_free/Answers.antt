@@ -3,6 +3,9 @@ use Rattle.std.proofs.Common.{arith, below_more}
 use Rattle.placing_table.specs.Vacancies.{first_free, none_free}
 use Rattle.placing_table.proofs.free.lowest_free.Goals as goal
 
+pub loop-u-init : goal.loop-u-init
+loop-u-init c = λ v h. absurd (omega arith)
+
 pub returns-then-is_free : goal.returns-then-is_free
 returns-then-is_free c = first_free c.loop-u.invariant (c.is_free.ensures.yes c.if-is_free.true)
 
