@@ -43,10 +43,8 @@ fn slot_row(row: &Row, interval: usize) -> Slots
     ensures { SlotRow interval row.now result }
 {
     let mut seen = [false; MOST_INTERVALS];
-    let mut base: usize = 0;
-    while base < MOST_STARTS {
+    for base in (0..MOST_STARTS).step_by(interval) {
         add_block(&mut seen, row, base, interval);
-        base += interval;
     }
     seen
 }
