@@ -4,7 +4,7 @@ ghost use Rattle.std.specs.Prelude.{◌≤◌};
 ghost use Rattle.sizes.specs.Sizes.{most_operations, most_instances};
 ghost use Rattle.colouring.specs.Parts.{OpenNode};
 
-use crate::{Edges, Marks, Table};
+use crate::{Marks, Question, Table};
 use sizes::{MOST_INSTANCES, MOST_OPERATIONS};
 
 // A step of the rank for a colour more is greater than every number of neighbours.
@@ -38,22 +38,15 @@ fn rank(left: usize, most: usize) -> usize
 }
 
 // A node to colour, if one has no colour.
-pub fn choose(
-    count: usize,
-    edges: &Edges,
-    limit: usize,
-    done: &Marks,
-    table: &Table,
-) -> Option<usize>
-    requires { (count ≤ most_operations) × (limit ≤ most_instances) }
-    ensures { OpenNode count done.now result }
+pub fn choose(q: Question, done: &Marks, table: &Table) -> Option<usize>
+    ensures { OpenNode q.entry.count done.now result }
 {
     let mut at = None;
     let mut least = 0;
-    for node in 0..count {
+    for node in 0..q.count {
         if !done[node] {
-            let left = colours_left(&table[node], limit);
-            let here = rank(left, neighbours(&edges[node], done, count));
+            let left = colours_left(&table[node], q.limit);
+            let here = rank(left, neighbours(&q.edges[node], done, q.count));
             if at.is_none() || here < least {
                 at = Some(node);
                 least = here;

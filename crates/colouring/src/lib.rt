@@ -33,29 +33,33 @@ pub type Colours = [usize; MOST_OPERATIONS];
 // A flag for each node and colour.
 pub type Table = [[bool; MOST_INSTANCES]; MOST_OPERATIONS];
 
+// What is asked: to colour a graph's nodes with colours below the limit.
+#[derive(Clone, Copy)]
+pub struct Question<'a> {
+    pub count: usize,
+    pub edges: &'a Edges,
+    pub limit: usize,
+    ghost count_ok: { count ≤ most_operations },
+    ghost limit_ok: { limit ≤ most_instances },
+}
+
 // A colouring over the colours of the nodes that are `done`, or none. Left free: which one, and its entries past the
 // count.
-fn extend(
-    count: usize,
-    edges: &Edges,
-    limit: usize,
-    done: &Marks,
-    colours: &Colours,
-) -> Option<Colours>
-    requires { (count ≤ most_operations) × (limit ≤ most_instances) × Graph count edges.now × Partial count edges.now limit done.now colours.now }
-    ensures { Searched count edges.now limit done.now colours.now result }
+fn extend(q: Question, done: &Marks, colours: &Colours) -> Option<Colours>
+    requires { Graph q.count q.edges.now × Partial q.count q.edges.now q.limit done.now colours.now }
+    ensures { Searched q.entry.count q.entry.edges.now q.entry.limit done.now colours.now result }
 {
-    let table = clear_table(count, edges, done, colours);
-    let Some(node) = choose(count, edges, limit, done, &table) else {
+    let table = clear_table(q, done, colours);
+    let Some(node) = choose(q, done, &table) else {
         return Some(*colours);
     };
-    for colour in 0..limit {
-        if worth(count, done, &table, node, colour) {
+    for colour in 0..q.limit {
+        if worth(q.count, done, &table, node, colour) {
             let mut marks = *done;
             marks[node] = true;
             let mut more = *colours;
             more[node] = colour;
-            if let Some(found) = extend(count, edges, limit, &marks, &more) {
+            if let Some(found) = extend(q, &marks, &more) {
                 return Some(found);
             }
         }
@@ -64,26 +68,18 @@ fn extend(
 }
 
 // The colouring over the colours of those `done` whose colour of the node is least, from some colouring over them.
-fn least_at(
-    count: usize,
-    edges: &Edges,
-    limit: usize,
-    done: &Marks,
-    colours: &Colours,
-    node: usize,
-    best: &Colours,
-) -> Colours
-    requires { (count ≤ most_operations) × (limit ≤ most_instances) × Graph count edges.now × Partial count edges.now limit done.now colours.now × (node < count) × (has done.now node ≡ false) × Extends count edges.now limit done.now colours.now (vec best.now) }
-    ensures { LeastAt count edges.now limit done.now colours.now node result }
+fn least_at(q: Question, done: &Marks, colours: &Colours, node: usize, best: &Colours) -> Colours
+    requires { Graph q.count q.edges.now × Partial q.count q.edges.now q.limit done.now colours.now × (node < q.count) × (has done.now node ≡ false) × Extends q.count q.edges.now q.limit done.now colours.now (vec best.now) }
+    ensures { LeastAt q.entry.count q.entry.edges.now q.entry.limit done.now colours.now node result }
 {
-    let table = clear_table(count, edges, done, colours);
+    let table = clear_table(q, done, colours);
     for colour in 0..best[node] {
-        if worth(count, done, &table, node, colour) {
+        if worth(q.count, done, &table, node, colour) {
             let mut marks = *done;
             marks[node] = true;
             let mut more = *colours;
             more[node] = colour;
-            if let Some(better) = extend(count, edges, limit, &marks, &more) {
+            if let Some(better) = extend(q, &marks, &more) {
                 return better;
             }
         }
@@ -92,29 +88,29 @@ fn least_at(
 }
 
 // The first colouring where it is easy: each node in turn gets the lowest colour that is clear. Else no answer.
-fn greedy(count: usize, edges: &Edges, limit: usize) -> Option<Colours>
-    requires { (count ≤ most_operations) × Graph count edges.now }
-    ensures { Tried count edges.now limit result }
+fn greedy(q: Question) -> Option<Colours>
+    requires { Graph q.count q.edges.now }
+    ensures { Tried q.entry.count q.entry.edges.now q.entry.limit result }
 {
     let mut done = [false; MOST_OPERATIONS];
     let mut colours = [0usize; MOST_OPERATIONS];
-    for k in 0..count {
-        colours[k] = lowest_clear(count, edges, &done, &colours, k, limit)?;
+    for k in 0..q.count {
+        colours[k] = lowest_clear(q, &done, &colours, k)?;
         done[k] = true;
     }
     Some(colours)
 }
 
 // The first colouring from some colouring: each node in turn gets its least colour.
-fn from_colouring(count: usize, edges: &Edges, limit: usize, some: &Colours) -> Colours
-    requires { (count ≤ most_operations) × (limit ≤ most_instances) × Graph count edges.now × Coloured count edges.now limit (vec some.now) }
-    ensures { First count edges.now limit (vec result) }
+fn from_colouring(q: Question, some: &Colours) -> Colours
+    requires { Graph q.count q.edges.now × Coloured q.count q.edges.now q.limit (vec some.now) }
+    ensures { First q.entry.count q.entry.edges.now q.entry.limit (vec result) }
 {
     let mut done = [false; MOST_OPERATIONS];
     let mut colours = [0usize; MOST_OPERATIONS];
     let mut best = *some;
-    for k in 0..count {
-        let better = least_at(count, edges, limit, &done, &colours, k, &best);
+    for k in 0..q.count {
+        let better = least_at(q, &done, &colours, k, &best);
         done[k] = true;
         colours[k] = better[k];
         best = better;
@@ -123,37 +119,25 @@ fn from_colouring(count: usize, edges: &Edges, limit: usize, some: &Colours) -> 
 }
 
 // A colouring with colours below the limit, or none. Left free: which one, and its entries past the count.
-pub fn some_colouring(count: usize, edges: &Edges, limit: usize) -> Option<Colours>
-    requires { (count ≤ most_operations) × (limit ≤ most_instances) × Graph count edges.now }
-    ensures { SomeColouring count edges.now limit result }
+pub fn some_colouring(q: Question) -> Option<Colours>
+    requires { Graph q.count q.edges.now }
+    ensures { SomeColouring q.entry.count q.entry.edges.now q.entry.limit result }
 {
-    if let Some(easy) = greedy(count, edges, limit) {
+    if let Some(easy) = greedy(q) {
         return Some(easy);
     }
-    extend(
-        count,
-        edges,
-        limit,
-        &[false; MOST_OPERATIONS],
-        &[0; MOST_OPERATIONS],
-    )
+    extend(q, &[false; MOST_OPERATIONS], &[0; MOST_OPERATIONS])
 }
 
 // The first colouring with colours below the limit by the order of nodes, or none. Left free: its entries past the
 // count.
-pub fn first_colouring(count: usize, edges: &Edges, limit: usize) -> Option<Colours>
-    requires { (count ≤ most_operations) × (limit ≤ most_instances) × Graph count edges.now }
-    ensures { FirstColouring count edges.now limit result }
+pub fn first_colouring(q: Question) -> Option<Colours>
+    requires { Graph q.count q.edges.now }
+    ensures { FirstColouring q.entry.count q.entry.edges.now q.entry.limit result }
 {
-    if let Some(easy) = greedy(count, edges, limit) {
+    if let Some(easy) = greedy(q) {
         return Some(easy);
     }
-    let some = extend(
-        count,
-        edges,
-        limit,
-        &[false; MOST_OPERATIONS],
-        &[0; MOST_OPERATIONS],
-    )?;
-    Some(from_colouring(count, edges, limit, &some))
+    let some = extend(q, &[false; MOST_OPERATIONS], &[0; MOST_OPERATIONS])?;
+    Some(from_colouring(q, &some))
 }

@@ -13,7 +13,7 @@ ghost use Rattle.laws.specs.Says.{Says};
 ghost use Rattle.held_slots.specs.Seated.{Clash};
 ghost use Rattle.instances.specs.Seats.{ClashRow, ClashTable, Seatable, FirstSeats, Merge, WithType, Seats};
 
-use colouring::{Edges, Marks};
+use colouring::{Edges, Marks, Question};
 use sizes::{MOST_OPERATIONS, MOST_TYPES};
 
 // So many operations, the type and the start of each, and the interval after which their slots come round.
@@ -76,7 +76,12 @@ pub fn seatable(ops: Starts, kind: Kind) -> bool
     ensures { Says (Seatable ops.entry.count (vec ops.entry.resource.now) ops.entry.interval kind.limit kind.busy kind.number (vec ops.entry.starts.now)) result }
 {
     let clashes = clash_table(ops, kind);
-    colouring::some_colouring(ops.count, &clashes, kind.limit).is_some()
+    let question = Question {
+        count: ops.count,
+        edges: &clashes,
+        limit: kind.limit,
+    };
+    colouring::some_colouring(question).is_some()
 }
 
 // The first instances for the starts in a type, if they have any.
@@ -85,7 +90,12 @@ fn type_instances(ops: Starts, kind: Kind) -> [usize; MOST_OPERATIONS]
     ensures { FirstSeats ops.entry.count (vec ops.entry.resource.now) ops.entry.interval kind.limit kind.busy kind.number (vec ops.entry.starts.now) (vec result) }
 {
     let clashes = clash_table(ops, kind);
-    colouring::first_colouring(ops.count, &clashes, kind.limit).unwrap_or([0; MOST_OPERATIONS])
+    let question = Question {
+        count: ops.count,
+        edges: &clashes,
+        limit: kind.limit,
+    };
+    colouring::first_colouring(question).unwrap_or([0; MOST_OPERATIONS])
 }
 
 // `inside` in a type, and `outside` elsewhere.

@@ -9,12 +9,10 @@ extend-requires t c =
     let o = c.in-Some in
     let ld : o.node < length s.done.now = omega (arith, o.ensures.0) in
     let lu : o.node < length s.colours.now = omega (arith, o.ensures.0) in (
-      omega (arith, bare_less s.count s.edges.now s.limit c.requires.2 s.done.now s.colours.now o.node 0 o.ensures.0 o.ensures.1 ld lu),
+      omega (arith, bare_less s.q.count s.q.edges.now s.q.limit c.requires.0 s.done.now s.colours.now o.node 0 o.ensures.0 o.ensures.1 ld lu),
       (
         c.requires.0,
-        c.requires.1,
-        c.requires.2,
-        partial_more s.count s.edges.now s.limit c.requires.2 s.done.now s.colours.now o.node c.loop-colour.colour o.ensures.0 o.ensures.1 ld lu c.loop-colour-test.true (c.worth.ensures.clear c.if-worth.true s.edges.now s.colours.now c.clear_table-table.ensures) c.requires.3,
+        partial_more s.q.count s.q.edges.now s.q.limit c.requires.0 s.done.now s.colours.now o.node c.loop-colour.colour o.ensures.0 o.ensures.1 ld lu c.loop-colour-test.true (c.worth.ensures.clear c.if-worth.true s.q.edges.now s.colours.now c.clear_table-table.ensures) c.requires.1,
       ),
     )
 
@@ -25,9 +23,9 @@ loop-colour-preserved t c =
     let ld : o.node < length s.done.now = omega (arith, o.ensures.0) in
     let lu : o.node < length s.colours.now = omega (arith, o.ensures.0) in
     elim c.if-worth.branch [
-      | then-worth+in_default-extend w ↦ left_tried s.count s.edges.now s.limit c.requires.2 s.done.now s.colours.now o.node c.loop-colour.colour o.ensures.0 o.ensures.1 ld lu c.loop-colour.invariant w.in_default-extend.ensures
-      | else-worth w ↦ c.worth.ensures.skip w.if-worth.false s.edges.now s.colours.now s.limit c.loop-colour-test.true c.requires.1 c.requires.2 c.clear_table-table.ensures c.loop-colour.invariant
+      | then-worth+in_default-extend w ↦ left_tried s.q.count s.q.edges.now s.q.limit c.requires.0 s.done.now s.colours.now o.node c.loop-colour.colour o.ensures.0 o.ensures.1 ld lu c.loop-colour.invariant w.in_default-extend.ensures
+      | else-worth w ↦ c.worth.ensures.skip w.if-worth.false s.q.edges.now s.colours.now s.q.limit c.loop-colour-test.true s.q.limit_ok c.requires.0 c.clear_table-table.ensures c.loop-colour.invariant
     ]
 
 pub returns : goal.returns
-returns t c = let s = c.args in used_up s.count s.edges.now s.limit c.requires.2 s.done.now s.colours.now c.in-Some.ensures.0 c.loop-colour.invariant c.loop-colour-test.false
+returns t c = let s = c.args in used_up s.q.count s.q.edges.now s.q.limit c.requires.0 s.done.now s.colours.now c.in-Some.ensures.0 c.loop-colour.invariant c.loop-colour-test.false

@@ -9,5 +9,5 @@ abbrev pub invariant-loop-k : goal.invariant-loop-k
 invariant-loop-k l =
     (length l.done ≡ most_operations)
     × (length l.colours ≡ most_operations)
-    × ((g : Graph l.count l.edges) → Lead l.count l.edges l.limit g l.done l.colours l.k)
-    × Extends l.count l.edges l.limit l.done l.colours (vec l.best)
+    × ((g : Graph l.q.count l.q.edges.now) → Lead l.q.count l.q.edges.now l.q.limit g l.done l.colours l.k)
+    × Extends l.q.count l.q.edges.now l.q.limit l.done l.colours (vec l.best)
