@@ -27,23 +27,14 @@ struct Lags {
 fn clipped(lag: i32) -> i32
     ensures { Clipped lag result }
 {
-    if lag < LEAST_LAG {
-        return LEAST_LAG;
-    }
-    if MOST_LAG < lag {
-        return MOST_LAG;
-    }
-    lag
+    lag.clamp(LEAST_LAG, MOST_LAG)
 }
 
 // Whether two operations hold each other within less than an interval. It only guides the search and promises nothing.
 fn close(i: usize, j: usize, there: i32, back: i32, interval: usize) -> bool
     requires { SmallLag there × SmallLag back × (interval ≤ most_intervals) }
 {
-    if i == j {
-        return false;
-    }
-    1 < there + back + interval as i32
+    i != j && 1 < there + back + interval as i32
 }
 
 // The lags, row by row.
@@ -69,11 +60,9 @@ fn types_of(sheet: Sheet) -> [usize; MOST_OPERATIONS]
     requires { sheet.op_count ≤ most_operations }
     ensures { TypesFor sheet sheet.op_count result }
 {
-    let n = sheet.op_count;
-    let mut resource = [0usize; MOST_OPERATIONS];
-    for i in 0..n {
-        let op = sheet.ops[i];
-        resource[i] = op.resource;
+    let mut resource = [0; MOST_OPERATIONS];
+    for i in 0..sheet.op_count {
+        resource[i] = sheet.ops[i].resource;
     }
     resource
 }
@@ -83,11 +72,9 @@ fn limits_of(sheet: Sheet) -> [usize; MOST_TYPES]
     requires { sheet.type_count ≤ most_types }
     ensures { LimitsFor sheet sheet.type_count result }
 {
-    let n = sheet.type_count;
-    let mut limits = [0usize; MOST_TYPES];
-    for r in 0..n {
-        let t = sheet.types[r];
-        limits[r] = t.instances;
+    let mut limits = [0; MOST_TYPES];
+    for r in 0..sheet.type_count {
+        limits[r] = sheet.types[r].instances;
     }
     limits
 }
@@ -97,11 +84,9 @@ fn busy_of(sheet: Sheet) -> [usize; MOST_TYPES]
     requires { sheet.type_count ≤ most_types }
     ensures { BusyFor sheet sheet.type_count result }
 {
-    let n = sheet.type_count;
-    let mut busy = [1usize; MOST_TYPES];
-    for r in 0..n {
-        let t = sheet.types[r];
-        busy[r] = t.busy;
+    let mut busy = [1; MOST_TYPES];
+    for r in 0..sheet.type_count {
+        busy[r] = sheet.types[r].busy;
     }
     busy
 }
@@ -111,13 +96,10 @@ fn joined(near: [bool; PAIRS], graph: Graph) -> [bool; PAIRS]
     requires { dependence.InRange graph }
 {
     let mut out = near;
-    let count = graph.edge_count;
-    for k in 0..count {
+    for k in 0..graph.edge_count {
         let e = graph.edges[k];
-        let i = e.from;
-        let j = e.to;
-        out[i * MOST_OPERATIONS + j] = true;
-        out[j * MOST_OPERATIONS + i] = true;
+        out[e.from * MOST_OPERATIONS + e.to] = true;
+        out[e.to * MOST_OPERATIONS + e.from] = true;
     }
     out
 }
@@ -134,20 +116,14 @@ pub fn task_of(
     requires { InRange sheet × Interval sheet interval × (graph ≡ graph_of sheet) }
     ensures { TaskFor sheet interval table result }
 {
-    let lags = lags_of(table, interval);
-    let close = lags.near;
-    let near = joined(close, graph);
-    let resource = types_of(sheet);
-    let instances = limits_of(sheet);
-    let busy = busy_of(sheet);
-    let lag = lags.lag;
+    let Lags { lag, near } = lags_of(table, interval);
     Task {
         ops: sheet.op_count,
         interval,
-        resource,
-        instances,
-        busy,
+        resource: types_of(sheet),
+        instances: limits_of(sheet),
+        busy: busy_of(sheet),
         lag,
-        near,
+        near: joined(near, graph),
     }
 }
