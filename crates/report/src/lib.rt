@@ -85,16 +85,13 @@ fn run(out: &mut [u8], sheet: Sheet) -> usize
     requires { InRange sheet × (room ≤ length out.old) }
     ensures { Front (Run sheet 1) out.old out.new result }
 {
-    let cap = sheet.cap;
     let mut at = 0;
-    let mut interval = 1;
-    while interval <= cap {
+    for interval in 1..sheet.cap + 1 {
         let a = schedule::plan_at(sheet, interval);
         at += interval_lines::fill(&mut out[at..], sheet, interval, a);
         if a.answer == 0 {
             return at;
         }
-        interval += 1;
     }
     at + put_answer(&mut out[at..], 7)
 }

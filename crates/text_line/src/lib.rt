@@ -74,6 +74,7 @@ fn fill_line(out: &mut [u8], line: Line) -> usize
 
 // The whole line at the front of `out`, and how many bytes it has; 0 where it does not fit, and then `out` stays as it
 // was.
+// Kept: 0 is the count of bytes written, which `fill_lines` adds.
 pub fn put_line(out: &mut [u8], line: Line) -> usize
     ensures value { result ≡ count_of (text_of line) out.old }
     ensures out_after { out.new ≡ buffer_of (text_of line) out.old }
