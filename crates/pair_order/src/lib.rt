@@ -12,12 +12,12 @@ ghost use Rattle.pair_order.specs.Answers.{SlotOrderAt, Order, refused};
 use plan::PlanAnswer;
 use sheet::Sheet;
 use sizes::MOST_OPERATIONS;
+use std::cmp::Ordering;
 
 // The last operation of a sheet that has as many as it can.
 const LAST_OPERATION: usize = MOST_OPERATIONS - 1;
 
 // The slot order, or why there is none; with 5 the first bad closed walk.
-#[repr(C)]
 #[derive(Clone, Copy)]
 pub struct SlotOrder {
     pub answer: usize,
@@ -53,28 +53,24 @@ fn later_of(pair: usize) -> usize
     requires { pair < most_pairs }
     ensures { Between pair result }
 {
-    let mut j: usize = 1;
-    while j < LAST_OPERATION {
-        let next = first_pair(j + 1);
-        if pair < next {
+    for j in 1..LAST_OPERATION {
+        if pair < first_pair(j + 1) {
             return j;
         }
-        j += 1;
     }
-    j
+    LAST_OPERATION
 }
 
 // 0 for one slot, 1 if the first is smaller, 2 if the second is.
+// Kept: leastplan_order of C and the line `order=` have these numbers.
 fn order_of(a: usize, b: usize) -> usize
     ensures { Order a b result }
 {
-    if a < b {
-        return 1;
+    match a.cmp(&b) {
+        Ordering::Equal => 0,
+        Ordering::Less => 1,
+        Ordering::Greater => 2,
     }
-    if b < a {
-        return 2;
-    }
-    0
 }
 
 // The order of the pair's slots in the plan given.
