@@ -8,7 +8,7 @@ ghost use Rattle.text.specs.Line.{refused};
 ghost use Rattle.page.specs.Answers.{full_table, PageAt};
 
 use page_writer::LINE_LENGTH;
-use placing_table::{Placement, Table};
+use placing_table::{NOTHING, Placement, Table};
 use sheet::Sheet;
 use sizes::{MOST_INTERVALS, MOST_OPERATIONS, MOST_TYPES};
 use text::Written;
@@ -21,12 +21,8 @@ fn full_table(count: usize, starts: &[usize], instances: &[usize]) -> Table
     requires { (count ≤ most_operations) × (length starts.now ≡ count) × (length instances.now ≡ count) }
     ensures { result ≡ full_table count starts.now instances.now }
 {
-    let nothing = Placement {
-        placed: false,
-        start: 0,
-        instance: 0,
-    };
-    let mut entries = [nothing; MOST_OPERATIONS];
+    let mut entries = [NOTHING; MOST_OPERATIONS];
+    // Kept: three rows are read and written at one index; zipped iterators are no plainer.
     for i in 0..count {
         entries[i] = Placement {
             placed: true,
