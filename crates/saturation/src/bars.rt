@@ -18,34 +18,21 @@ pub struct Barrier {
 }
 
 // Whether operation i is of this type and reaches at most w.
-fn is_inside(
-    resource: &[usize; MOST_OPERATIONS],
-    reach: &[usize; MOST_OPERATIONS],
-    kind: usize,
-    w: usize,
-    i: usize,
-) -> bool
+fn is_inside(case: Case, reach: &[usize; MOST_OPERATIONS], w: usize, i: usize) -> bool
     requires { i < most_operations }
-    ensures { result ≡ inside_b (vec resource.now) (vec reach.now) kind w i }
+    ensures { result ≡ inside_b (vec case.entry.resource.now) (vec reach.now) case.entry.kind w i }
 {
-    resource[i] == kind && reach[i] <= w
+    case.resource[i] == case.kind && reach[i] <= w
 }
 
 // How many operations of this type reach at most w.
 #[tactic(auto, using(task::specs::PlanLaws::tally_next, task::specs::PlanLaws::tally_start))]
-fn inside(
-    resource: &[usize; MOST_OPERATIONS],
-    reach: &[usize; MOST_OPERATIONS],
-    ops: usize,
-    kind: usize,
-    w: usize,
-) -> usize
-    requires { ops ≤ most_operations }
-    ensures { result ≡ tally ops (inside_b (vec resource.now) (vec reach.now) kind w) }
+fn inside(case: Case, reach: &[usize; MOST_OPERATIONS], w: usize) -> usize
+    ensures { result ≡ tally case.entry.ops (inside_b (vec case.entry.resource.now) (vec reach.now) case.entry.kind w) }
 {
     let mut c = 0;
-    for i in 0..ops {
-        c += usize::from(is_inside(resource, reach, kind, w, i));
+    for i in 0..case.ops {
+        c += usize::from(is_inside(case, reach, w, i));
     }
     c
 }
@@ -54,36 +41,21 @@ fn inside(
 const REACHES: usize = MOST_INTERVALS + 1;
 
 // How many operations of this type reach just so far. No promise: it only tells where `inside` is worth a count.
-fn reach_counts(
-    resource: &[usize; MOST_OPERATIONS],
-    reach: &[usize; MOST_OPERATIONS],
-    ops: usize,
-    kind: usize,
-) -> [u32; REACHES]
-    requires { ops ≤ most_operations }
-{
+fn reach_counts(case: Case, reach: &[usize; MOST_OPERATIONS]) -> [u32; REACHES] {
     let mut counts = [0u32; REACHES];
-    for i in 0..ops {
+    for i in 0..case.ops {
         let k = reach[i].min(MOST_INTERVALS);
-        counts[k] = counts[k].wrapping_add(u32::from(resource[i] == kind));
+        counts[k] = counts[k].wrapping_add(u32::from(case.resource[i] == case.kind));
     }
     counts
 }
 
 // The bars after a full stretch of w slots: those of the type that reach farther stay outside.
-fn raise(
-    bar: &mut [usize; MOST_OPERATIONS],
-    resource: &[usize; MOST_OPERATIONS],
-    reach: &[usize; MOST_OPERATIONS],
-    ops: usize,
-    kind: usize,
-    w: usize,
-)
-    requires { ops ≤ most_operations }
-    ensures { Raised ops bar.old (vec resource.now) reach.now kind w bar.new }
+fn raise(bar: &mut [usize; MOST_OPERATIONS], case: Case, reach: &[usize; MOST_OPERATIONS], w: usize)
+    ensures { Raised case.entry.ops bar.old (vec case.entry.resource.now) reach.now case.entry.kind w bar.new }
 {
-    for i in 0..ops {
-        if resource[i] == kind && w < reach[i] {
+    for i in 0..case.ops {
+        if case.resource[i] == case.kind && w < reach[i] {
             bar[i] = w;
         }
     }
@@ -100,7 +72,7 @@ struct Cover {
 // stays busy take as many starts more as it has instances.
 fn widened(cover: Cover, case: Case, used: bool, w: usize) -> Cover
     requires { (w < most_intervals) × (cover.cap ≤ w * most_operations) }
-    ensures { Widened cover.cap cover.covered case.instances case.busy used w result.cap result.covered }
+    ensures { Widened cover.cap cover.covered case.entry.instances case.entry.busy used w result.cap result.covered }
 {
     if used && cover.covered <= w {
         return Cover {
@@ -113,6 +85,7 @@ fn widened(cover: Cover, case: Case, used: bool, w: usize) -> Cover
 
 // Whether a stretch that takes `cap` starts is worth a count: as many seem to be inside, and it seems that others of
 // the type touch it.
+// Kept: a cast, as no From gives a usize of a u32.
 fn worth(cap: usize, seem: u32, most: usize, touched: u32) -> bool {
     let inside = seem as usize;
     cap < inside || (cap == inside && inside < most && seem < touched)
@@ -121,16 +94,15 @@ fn worth(cap: usize, seem: u32, most: usize, touched: u32) -> bool {
 // The stretches from slot s on, or none where more must be inside one than it takes.
 pub fn bars(
     case: Case,
-    resource: &[usize; MOST_OPERATIONS],
     used: &Slots,
     touch: &Touches,
     reach: &[usize; MOST_OPERATIONS],
     s: usize,
 ) -> Option<Barrier>
     requires { s < case.interval }
-    ensures { MatchOption result (NoRoomIn case (vec resource.now) s used.now reach.now) (λ b. BarsIn case (vec resource.now) s used.now reach.now b.bar) }
+    ensures { MatchOption result (NoRoomIn case.entry (vec case.entry.resource.now) s used.now reach.now) (λ b. BarsIn case.entry (vec case.entry.resource.now) s used.now reach.now b.bar) }
 {
-    let counts = reach_counts(resource, reach, case.ops, case.kind);
+    let counts = reach_counts(case, reach);
     let mut found = Barrier {
         wide: 0,
         bar: [0; MOST_OPERATIONS],
@@ -147,12 +119,12 @@ pub fn bars(
             return Some(found);
         }
         if worth(cover.cap, seem, case.most, touched) {
-            let count = inside(resource, reach, case.ops, case.kind, w + 1);
+            let count = inside(case, reach, w + 1);
             if cover.cap < count {
                 return None;
             }
             if count == cover.cap {
-                raise(&mut found.bar, resource, reach, case.ops, case.kind, w + 1);
+                raise(&mut found.bar, case, reach, w + 1);
             }
             found.wide = w + 1;
         }

@@ -31,18 +31,17 @@ fn slot_saturation(
     d: &mut Domain,
     z: &SlotRows,
     touch: &mut Touches,
-    resource: &[usize; MOST_OPERATIONS],
     used: &Slots,
     reach: &[usize; MOST_OPERATIONS],
     s: usize,
 ) -> bool
     requires { s < case.interval }
-    ensures { SlotCut case (vec resource.now) s used.now reach.now d.old d.new result }
+    ensures { SlotCut case.entry (vec case.entry.resource.now) s used.now reach.now d.old d.new result }
 {
-    let Some(b) = bars(case, resource, used, touch, reach, s) else {
+    let Some(b) = bars(case, used, touch, reach, s) else {
         return true;
     };
-    if 0 < b.wide && drained(case, d, z, resource, &b.bar, s) {
+    if 0 < b.wide && drained(case, d, z, &b.bar, s) {
         forget(touch, b.wide, s, case.interval);
     }
     false
@@ -54,6 +53,7 @@ fn type_saturation(p: &Task, d: &mut Domain, z: &SlotRows, kind: usize, most: us
     ensures { Keeps (PlanOf p.now) p.now.ops d.old d.new }
 {
     let case = Case {
+        resource: &p.resource,
         ops: p.ops,
         interval: p.interval,
         instances: p.instances[kind],
@@ -61,15 +61,15 @@ fn type_saturation(p: &Task, d: &mut Domain, z: &SlotRows, kind: usize, most: us
         most,
         kind,
     };
-    let used = used_slots(z, &p.resource, p.ops, kind);
+    let used = used_slots(z, case);
     let mut touch = touches(z, p.ops);
-    let mut reach = reach_zero(z, p.ops, p.interval);
+    let mut reach = reach_zero(z, case);
     for s in 0..p.interval {
-        if used[s] && slot_saturation(case, d, z, &mut touch, &p.resource, &used, &reach, s) {
+        if used[s] && slot_saturation(case, d, z, &mut touch, &used, &reach, s) {
             *d = [[false; MOST_STARTS]; MOST_OPERATIONS];
             return;
         }
-        reach = stepped(&reach, z, s, p.ops, p.interval);
+        reach = stepped(&reach, z, s, case);
     }
 }
 

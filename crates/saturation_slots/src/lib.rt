@@ -11,13 +11,15 @@ ghost use Rattle.sizes.specs.Sizes.{most_operations, most_busy, most_intervals};
 mod slots;
 mod touched;
 
+use sizes::MOST_OPERATIONS;
 pub use slots::{SlotRows, Slots, reach_zero, slot_at, slot_rows, stepped, used_slots};
 pub use touched::{Touches, forget, touches};
 
-// One type of a task: so many of its operations (`most`) are of the type `kind`, on its instances, which stay busy for
-// some slots of the interval.
+// One type of a task: so many of its operations (`most`), whose types are `resource`, are of the type `kind`, on its
+// instances, which stay busy for some slots of the interval.
 #[derive(Clone, Copy)]
-pub struct Case {
+pub struct Case<'a> {
+    pub resource: &'a [usize; MOST_OPERATIONS],
     pub ops: usize,
     pub interval: usize,
     pub instances: usize,

@@ -5,6 +5,7 @@ ghost use Rattle.sizes.specs.Sizes.{most_operations, most_starts, most_intervals
 ghost use Rattle.laws.specs.Entry.{vec};
 ghost use Rattle.saturation_slots.specs.Saturation.{slot_at, SlotRow, WithBlock, Slotted, WithSlots, UsedBy, FarRow, Reach, StepOne};
 
+use crate::Case;
 use domain::{Domain, Row};
 use sizes::{MOST_INTERVALS, MOST_OPERATIONS, MOST_STARTS};
 
@@ -79,18 +80,12 @@ fn add_slots(used: &mut Slots, slots: &Slots)
 }
 
 // The slots that operations of this type may still use.
-pub fn used_slots(
-    z: &SlotRows,
-    resource: &[usize; MOST_OPERATIONS],
-    ops: usize,
-    kind: usize,
-) -> Slots
-    requires { ops ≤ most_operations }
-    ensures { UsedBy ops (vec resource.now) kind z.now result }
+pub fn used_slots(z: &SlotRows, case: Case) -> Slots
+    ensures { UsedBy case.entry.ops (vec case.entry.resource.now) case.entry.kind z.now result }
 {
     let mut used = [false; MOST_INTERVALS];
-    for i in 0..ops {
-        if resource[i] == kind {
+    for i in 0..case.ops {
+        if case.resource[i] == case.kind {
             add_slots(&mut used, &z[i]);
         }
     }
@@ -109,13 +104,12 @@ fn far_row(slots: &Slots, interval: usize) -> usize
 }
 
 // How far from slot 0 each operation's slots reach.
-pub fn reach_zero(z: &SlotRows, ops: usize, interval: usize) -> [usize; MOST_OPERATIONS]
-    requires { (ops ≤ most_operations) × (interval ≤ most_intervals) }
-    ensures { Reach ops interval 0 z.now result }
+pub fn reach_zero(z: &SlotRows, case: Case) -> [usize; MOST_OPERATIONS]
+    ensures { Reach case.entry.ops case.entry.interval 0 z.now result }
 {
     let mut reach = [0usize; MOST_OPERATIONS];
-    for i in 0..ops {
-        reach[i] = far_row(&z[i], interval);
+    for i in 0..case.ops {
+        reach[i] = far_row(&z[i], case.interval);
     }
     reach
 }
@@ -136,15 +130,14 @@ pub fn stepped(
     reach: &[usize; MOST_OPERATIONS],
     z: &SlotRows,
     s: usize,
-    ops: usize,
-    interval: usize,
+    case: Case,
 ) -> [usize; MOST_OPERATIONS]
-    requires { (ops ≤ most_operations) × (s < interval) × (interval ≤ most_intervals) × Reach ops interval s z.now reach.now }
-    ensures { s + 1 < interval → Reach ops interval (s + 1) z.now result }
+    requires { (s < case.interval) × Reach case.ops case.interval s z.now reach.now }
+    ensures { s + 1 < case.entry.interval → Reach case.entry.ops case.entry.interval (s + 1) z.now result }
 {
     let mut out = [0usize; MOST_OPERATIONS];
-    for i in 0..ops {
-        out[i] = step_one(z[i][s], interval, reach[i]);
+    for i in 0..case.ops {
+        out[i] = step_one(z[i][s], case.interval, reach[i]);
     }
     out
 }

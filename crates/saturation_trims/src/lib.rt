@@ -44,16 +44,15 @@ pub fn drained(
     case: Case,
     d: &mut Domain,
     z: &SlotRows,
-    resource: &[usize; MOST_OPERATIONS],
     bar: &[usize; MOST_OPERATIONS],
     s: usize,
 ) -> bool
     requires { s < case.interval }
-    ensures { Drained case.ops (vec resource.now) case.kind s case.interval bar.now d.old d.new }
+    ensures { Drained case.entry.ops (vec case.entry.resource.now) case.entry.kind s case.entry.interval bar.now d.old d.new }
 {
     let mut cut = false;
     for i in 0..case.ops {
-        if resource[i] == case.kind {
+        if case.resource[i] == case.kind {
             cut |= trim(&mut d[i], &z[i], bar[i], s, case.interval);
         }
     }

@@ -38,6 +38,7 @@ pub struct Task {
 }
 
 // Whether two starts keep a lag.
+// Kept: casts of starts, which are below MOST_STARTS; try_from would give an error that cannot be.
 fn meets(from: usize, lag: i32, to: usize) -> bool
     requires { (from < most_starts) × (to < most_starts) × SmallLag lag }
     ensures { Says ((pos from +ℤ lag) ≤ℤ pos to) result }

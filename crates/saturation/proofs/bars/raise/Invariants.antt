@@ -3,4 +3,4 @@ use Rattle.laws.specs.Entry.{vec}
 use Rattle.saturation.proofs.bars.raise.Given as goal
 
 abbrev pub invariant-loop-i : goal.invariant-loop-i
-invariant-loop-i l = (k : ℕ) → (vec l.bar k ≡ vec l.fn.bar k) ⊎ ((vec l.resource k ≡ l.kind) × (l.w < vec l.reach k) × (vec l.bar k ≡ l.w))
+invariant-loop-i l = (k : ℕ) → (vec l.bar k ≡ vec l.fn.bar k) ⊎ ((vec l.case.resource.now k ≡ l.case.kind) × (l.w < vec l.reach k) × (vec l.bar k ≡ l.w))

@@ -6,4 +6,4 @@ use Rattle.saturation_slots.specs.Saturation.{FarRow}
 use Rattle.saturation_slots.proofs.slots.reach_zero.Given as goal
 
 abbrev pub invariant-loop-i : goal.invariant-loop-i
-invariant-loop-i l = (length l.reach ≡ most_operations) × ((k : ℕ) → k < l.i → FarRow l.interval (row_of l.z k) (vec l.reach k))
+invariant-loop-i l = (length l.reach ≡ most_operations) × ((k : ℕ) → k < l.i → FarRow l.case.interval (row_of l.z k) (vec l.reach k))

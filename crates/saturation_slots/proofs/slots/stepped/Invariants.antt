@@ -6,4 +6,4 @@ use Rattle.saturation_slots.specs.Saturation.{StepOne}
 use Rattle.saturation_slots.proofs.slots.stepped.Given as goal
 
 abbrev pub invariant-loop-i : goal.invariant-loop-i
-invariant-loop-i l = (length l.out ≡ most_operations) × ((k : ℕ) → k < l.i → StepOne (has (row_of l.z k) l.s) l.interval (vec l.reach k) (vec l.out k))
+invariant-loop-i l = (length l.out ≡ most_operations) × ((k : ℕ) → k < l.i → StepOne (has (row_of l.z k) l.s) l.case.interval (vec l.reach k) (vec l.out k))
