@@ -3,7 +3,7 @@
 // stands first. The words themselves are not repeated.
 use plan_lines::MOST_LINES;
 use table_script::MOST_STEPS;
-use words::INTERVAL;
+use words::Argument;
 
 // What cannot be said is lost: the answer on standard output is the same.
 fn say(rt: &impl Eprint, text: &str) {
@@ -30,12 +30,11 @@ pub fn strange(rt: &impl Eprint) {
     )
 }
 
-// What is wrong with an argument, which goes by its number.
-pub fn fault(rt: &impl Eprint, argument: usize, wrong: &str) {
-    if argument == INTERVAL {
-        line(rt, "interval=", wrong);
-    } else {
-        line(rt, "pair=", wrong);
+// What is wrong with an argument.
+pub fn fault(rt: &impl Eprint, argument: Argument, wrong: &str) {
+    match argument {
+        Argument::Interval => line(rt, "interval=", wrong),
+        Argument::Pair => line(rt, "pair=", wrong),
     }
 }
 

@@ -5,43 +5,35 @@
 ghost use Rattle.std.specs.Prelude.{◌≡◌};
 ghost use Rattle.words.specs.Requests.{interval_rows, counted, taking, request_in, request_of};
 
-use words::{Asked, Command, Given, INTERVAL, PAIR};
+use words::{Argument, Asked, Command, Given, Times};
 
 // What is then asked for, where an argument is given once if it is taken, and else not at all.
-fn counted(argument: usize, times: usize, taken: bool, then: Asked) -> Asked
+#[tactic(auto, unfolding(words::specs::Requests::counted))]
+fn counted(argument: Argument, times: Times, taken: bool, then: Asked) -> Asked
     ensures { result ≡ counted argument times taken then }
 {
-    if taken {
-        if times == 0 {
-            return Asked::Missing(argument);
-        }
-        if times != 1 {
-            return Asked::Twice(argument);
-        }
-        return then;
+    match (taken, times) {
+        (true, Times::Never) => Asked::Missing(argument),
+        (true, Times::Again) => Asked::Twice(argument),
+        (false, Times::Once | Times::Again) => Asked::Foreign(argument),
+        _ => then,
     }
-    if times != 0 {
-        return Asked::Foreign(argument);
-    }
-    then
 }
 
 // What is then asked for, where the arguments are those that the command takes.
+#[tactic(auto, unfolding(words::specs::Requests::taking))]
 fn taking(given: Given, interval: bool, pair: bool, then: Asked) -> Asked
     ensures { result ≡ taking given interval pair then }
 {
     if given.strange {
         return Asked::Strange;
     }
-    counted(
-        INTERVAL,
-        given.intervals,
-        interval,
-        counted(PAIR, given.pairs, pair, then),
-    )
+    let then = counted(Argument::Pair, given.pairs, pair, then);
+    counted(Argument::Interval, given.intervals, interval, then)
 }
 
 // What is asked for by the name of a command at an interval.
+#[tactic(auto, using(words::specs::Laws::passed, words::specs::Laws::found, words::specs::Laws::no_row))]
 fn at_interval(name: &[u8], given: Given) -> Asked
     ensures { result ≡ request_in interval_rows name.now given }
 {
@@ -74,6 +66,7 @@ fn at_interval(name: &[u8], given: Given) -> Asked
 
 // The command of that name with its numbers, where the arguments are those that it takes, each once; else the first
 // thing that is wrong.
+#[tactic(auto, using(words::specs::Laws::passed, words::specs::Laws::found, words::specs::Laws::no_row))]
 pub fn request(name: &[u8], given: Given) -> Asked
     ensures { result ≡ request_of name.now given }
 {

@@ -1,9 +1,11 @@
 -- The arguments of a command, `interval=L` and `pair=P`: what one word more says. A word comes as a line, its bytes and
 -- a line feed.
-use Rattle.std.specs.Prelude.{ℕ, true, cond, List, [], ◌∷◌, eqb, pos, nat_abs, get_or, Option, Some, None}
+use Rattle.std.specs.Prelude.{ℕ, true, List, [], ◌∷◌, pos, nat_abs, get_or, Option, Some, None}
 use Rattle.text.specs.Keys.{interval_key}
 use Rattle.scan.specs.Line.{no_minus, line_of, on_fields}
 use Rattle.words.specs.declared.Given.{Given}
+use Rattle.words.specs.declared.Times.{Times}
+use Rattle.words.specs.declared.Times.TheVariants.{Never, Once, Again}
 
 -- `pair=`
 abbrev pub pair_key : List ℕ
@@ -24,9 +26,11 @@ abbrev pub on_number : {A : Type 0} → Option ℕ → (ℕ → A) → A → A
 on_number (Some n) f o = f n
 on_number None f o = o
 
--- one time more, where 2 is twice or more
-unfoldable pub once_more : ℕ → ℕ
-once_more n = cond (eqb n 0) 1 2
+-- one time more, where again is twice or more
+abbrev pub once_more : Times → Times
+once_more Never = Once
+once_more Once = Again
+once_more Again = Again
 
 -- `interval=n`
 abbrev pub with_interval : Given → ℕ → Given

@@ -16,6 +16,7 @@ use Rattle.scan.specs.declared.Line.{Line}
 use Rattle.scan.specs.Line.{fields, bad, no_minus, line_of, LineFits}
 use Rattle.scan.specs.Values.{bits, bits_at, cast_at}
 use Rattle.words.specs.declared.Given.{Given}
+use Rattle.words.specs.declared.Asked.TheVariants.{Unknown}
 use Rattle.words.specs.Arguments.{pair_key, number_after, with_interval, with_pair, with_other, with_word}
 use Rattle.words.specs.Requests.{Row, taking, same, request_in}
 
@@ -70,6 +71,10 @@ same_true (x ∷ xs) (y ∷ ys) e =
     by_test (eqb x y)
     (λ t. let q : x ≡ y = eqb-true x y t in let r : xs ≡ ys = same_true xs ys (simp t at e) in cc)
     (λ t. true_false (sym (simp t at e)))
+
+pub no_row : (name : List ℕ) (g : Given) → request_in [] name g ≡ Unknown
+unfolding request_in
+no_row name g = refl
 
 module _ (r : Row) (rs : List Row) (name : List ℕ) (g : Given) {b : Bool} (tells : (b ≡ true → name ≡ r.name) × (name ≡ r.name → b ≡ true)) where
   -- the row of another name is passed over

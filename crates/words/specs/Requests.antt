@@ -2,6 +2,10 @@
 -- fit it.
 use Rattle.std.specs.Prelude.{ℕ, Bool, true, false, cond, List, [], ◌∷◌, eqb}
 use Rattle.words.specs.declared.Given.{Given}
+use Rattle.words.specs.declared.Argument.{Argument}
+use Rattle.words.specs.declared.Argument.TheVariants.{Interval, Pair}
+use Rattle.words.specs.declared.Times.{Times}
+use Rattle.words.specs.declared.Times.TheVariants.{Never, Once, Again}
 use Rattle.words.specs.declared.Command.TheVariants.{Bounds, Starts, Separations, Plan, Page, Order, Check, Write}
 use Rattle.words.specs.declared.Asked.{Asked}
 use Rattle.words.specs.declared.Asked.TheVariants.{Do, PageOfPlan, Table, Judge, Unknown, Strange, Missing, Twice, Foreign}
@@ -124,25 +128,20 @@ rows = bounds_row ∷ check_row ∷ write_row ∷ judge_row ∷ interval_rows
 
 -- ---- the arguments
 
--- the arguments by number
-abbrev pub interval : ℕ
-interval = 0
-
-abbrev pub pair : ℕ
-pair = 1
-
 -- what is then asked for, where an argument is given once if it is taken, and else not at all
-unfoldable pub counted : ℕ → ℕ → Bool → Asked → Asked
-counted argument times taken then =
-    cond taken
-    (cond (eqb times 0) (Missing argument) (cond (eqb times 1) then (Twice argument)))
-    (cond (eqb times 0) then (Foreign argument))
+unfoldable pub counted : Argument → Times → Bool → Asked → Asked
+counted argument Never true then = Missing argument
+counted argument Once true then = then
+counted argument Again true then = Twice argument
+counted argument Never false then = then
+counted argument Once false then = Foreign argument
+counted argument Again false then = Foreign argument
 
 -- what is then asked for, where the arguments are those that the command takes: a word that is no argument is told
 -- first, then what is wrong with the interval, then with the pair
 unfoldable pub taking : Given → Bool → Bool → Asked → Asked
 taking g takesInterval takesPair then =
-    cond g.strange Strange (counted interval g.intervals takesInterval (counted pair g.pairs takesPair then))
+    cond g.strange Strange (counted Interval g.intervals takesInterval (counted Pair g.pairs takesPair then))
 
 -- ---- the whole
 

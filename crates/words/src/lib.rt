@@ -20,10 +20,12 @@ pub enum Command {
     Write,
 }
 
-// The arguments by number.
-pub const INTERVAL: usize = 0;
-
-pub const PAIR: usize = 1;
+// The arguments.
+#[derive(Clone, Copy)]
+pub enum Argument {
+    Interval,
+    Pair,
+}
 
 // What the words ask for: a command to be done on the sheet alone, or, with lines that come besides, the page of a plan
 // or a script on a placing table, both at an interval, or another supplier's answer judged; or what is wrong with them:
@@ -37,27 +39,35 @@ pub enum Asked {
     Judge,
     Unknown,
     Strange,
-    Missing(usize),
-    Twice(usize),
-    Foreign(usize),
+    Missing(Argument),
+    Twice(Argument),
+    Foreign(Argument),
 }
 
-// The arguments so far: how often each was given, 2 for twice or more, and its last number; whether some word is no
+// How often an argument was given; `Again` is twice or more.
+#[derive(Clone, Copy)]
+pub enum Times {
+    Never,
+    Once,
+    Again,
+}
+
+// The arguments so far: how often each was given and its last number, 0 before there is one; whether some word is no
 // argument.
 #[derive(Clone, Copy)]
 pub struct Given {
-    pub intervals: usize,
+    pub intervals: Times,
     pub interval: usize,
-    pub pairs: usize,
+    pub pairs: Times,
     pub pair: usize,
     pub strange: bool,
 }
 
 // Before the first word.
 pub const NOTHING: Given = Given {
-    intervals: 0,
+    intervals: Times::Never,
     interval: 0,
-    pairs: 0,
+    pairs: Times::Never,
     pair: 0,
     strange: false,
 };
@@ -75,15 +85,14 @@ fn number_after(line: &[u8], key: &[u8]) -> Option<usize>
     Some(values[0] as usize)
 }
 
-// Once, or twice and more.
-#[tactic(auto, unfolding(crate::specs::Arguments::once_more))]
-fn once_more(times: usize) -> usize
+// One time more.
+fn once_more(times: Times) -> Times
     ensures { result ≡ once_more times }
 {
-    if times == 0 {
-        return 1;
+    match times {
+        Times::Never => Times::Once,
+        _ => Times::Again,
     }
-    2
 }
 
 // One word more; `line` has its bytes and a line feed after them.
