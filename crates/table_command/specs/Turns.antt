@@ -15,10 +15,7 @@ use Rattle.placing_table.specs.Table.{nothing, empty_table, Consistent}
 use Rattle.placing_table.specs.Keeps.{empty_consistent}
 use Rattle.placing.specs.declared.PlaceAnswer.{PlaceAnswer}
 use Rattle.table_script.specs.declared.Step.{Step}
-use Rattle.table_script.specs.declared.StepLine.{StepLine}
-use Rattle.table_script.specs.declared.StepLine.TheVariants.{Read}
-use Rattle.table_script.specs.Script.{most_steps, steps, script_of}
-use Rattle.table_script.specs.Steps.{ReadAt}
+use Rattle.table_script.specs.Script.{read, step_of, most_steps, steps, script_of}
 use Rattle.table_script.specs.Ahead.{Ahead, begin, next, room, finished, few_steps}
 use Rattle.table_command.specs.declared.steps.Run.{Run}
 use Rattle.table_command.specs.Prints.{StepAt, answer_lines, Runs, ends, then}
@@ -83,16 +80,16 @@ module _ {s : Sheet} {L : ℕ} (y : Accepted s L) {script : List ℕ} {all : Lis
   pub fits : p < length script → step_most * most_steps ≤ length old → place + step_most ≤ length out
   fits h m = omega (arith, t.short, room t.ahead h, t.pasted.size)
 
-  pub again : {l : StepLine} {st : Step} {q : ℕ} {r : Run} {new : List ℕ} → p < length script → ReadAt script p l → l ≡ Read st q
+  pub again : {st : Step} {q : ℕ} {r : Run} {new : List ℕ} → p < length script → read st (drop q script) ≡ step_of (drop p script)
       → Stepped s L table st place out new r → Turn s L script all old new r.table r.place q
-  again {st = st} {r = r} h e g w =
+  again {st = st} {r = r} h e w =
       let k = step_kept t.long t.consistent w.answered in
       let b = step_most_lem w.answer (step_small y w.answered) in
       let n = length-append t.done (st ∷ []) in
       record {
         done = t.done ++ (st ∷ []);
         lines = t.lines ++ answer_lines w.answer;
-        ahead = next t.ahead h e g;
+        ahead = next t.ahead h e;
         runs = subst (λ (x : Table). Runs s L empty_table (t.done ++ (st ∷ [])) x (t.lines ++ answer_lines w.answer)) (sym w.after) (runs_then t.runs w.answered);
         pasted = pasted_as (sym (lines_append t.lines (answer_lines w.answer))) (pasted_then (omega arith) t.pasted w.pasted);
         short = omega (arith, t.short, w.pasted.ends, b, n);

@@ -13,7 +13,7 @@ use crate::listing::put_line_at;
 use placing::{Offer, PlaceAnswer};
 use placing_table::Table;
 use sheet::Sheet;
-use table_script::{Step, StepLine, read_step};
+use table_script::{Step, read_step};
 use text::Key;
 
 // The place after the lines of the steps so far, and the table after them.
@@ -96,15 +96,13 @@ pub fn put_steps(out: &mut [u8], sheet: Sheet, interval: usize, script: &[u8]) -
     let mut place = 0;
     let mut p: usize = 0;
     while p < script.len() {
-        match read_step(script, p) {
-            StepLine::Read(step, next) => {
-                let run = put_step(out, place, sheet, interval, table, step);
-                place = run.place;
-                table = run.table;
-                p = next;
-            }
-            StepLine::Malformed => return Run { place, table },
-        }
+        let Some((step, next)) = read_step(script, p) else {
+            return Run { place, table };
+        };
+        let run = put_step(out, place, sheet, interval, table, step);
+        place = run.place;
+        table = run.table;
+        p = next;
     }
     Run { place, table }
 }

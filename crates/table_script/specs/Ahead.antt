@@ -1,16 +1,14 @@
 -- For a caller that walks a script all of whose lines are steps, by `read_step` from place to place: what holds before
 -- each line, and that the steps that were read are those of the script. Assumes nothing.
 use Rattle.std.specs.Prelude.{◌≡◌, ℕ, zero, suc, ◌+◌, ◌≤◌, ◌<◌, length, drop}
-use Rattle.std.proofs.Math.Path.{refl, subst}
+use Rattle.std.proofs.Math.Path.{refl, sym, subst}
 use mathlib.Core.List.{List, [], ◌∷◌, ◌++◌}
 use Rattle.std.proofs.Math.Decide.{dec_lt}
 use Rattle.std.proofs.Common.{arith, length-drop, length-append}
 use Rattle.table_script.specs.declared.Step.{Step}
-use Rattle.table_script.specs.declared.StepLine.{StepLine}
-use Rattle.table_script.specs.declared.StepLine.TheVariants.{Read, Malformed}
 use Rattle.table_script.specs.Script.{StepRead, read, malformed, on_step, step_of}
 use Rattle.table_script.specs.Script.{most_steps, ScriptRead, steps, fault, steps_from, script_of, fault_of}
-use Rattle.table_script.specs.Steps.{ReadAt, seen_read, seen_malformed, within_read, no_fault}
+use Rattle.table_script.specs.Steps.{no_fault}
 use Rattle.table_script.specs.RoundTrip.{shorter}
 use Rattle.table_script.specs.Walk.{Walk, ends, over, stops, turn}
 
@@ -73,17 +71,15 @@ module _ {s : List ℕ} {all : List Step} {p : ℕ} {done : List Step} (a : Ahea
         at (yes m) = m
         at (no m) = absurd (no_fault (over a h (omega arith)))
 
-    module _ {r : StepLine} (e : ReadAt s p r) where
-      -- it is a step
-      pub next : {st : Step} {q : ℕ} → r ≡ Read st q → Ahead s all q (done ++ (st ∷ []))
-      next g = turn a h room (seen_read s e.0 g)
+    -- it is a step
+    pub next : {st : Step} {q : ℕ} → read st (drop q s) ≡ step_of (drop p s) → Ahead s all q (done ++ (st ∷ []))
+    next e = turn a h room (sym e)
 
-      pub never : r ≡ Malformed → ⊥
-      never g = no_fault (stops a h (seen_malformed s e.0 g))
+    pub never : malformed ≡ step_of (drop p s) → ⊥
+    never e = no_fault (stops a h (sym e))
 
 -- its line has at least one byte
-pub further : (s : List ℕ) (p : ℕ) {r : StepLine} {st : Step} {q : ℕ} → p < length s → ReadAt s p r → r ≡ Read st q
+pub further : (s : List ℕ) (p : ℕ) {st : Step} {q : ℕ} → p < length s → q ≤ length s → read st (drop q s) ≡ step_of (drop p s)
     → p < q
-further s p {r} {st} {q} h e g =
-    let w : q ≤ length s = within_read s e.1 g in
-    omega (arith, shorter (drop p s) st (drop q s) (seen_read s e.0 g), length-drop p s, length-drop q s)
+further s p {st} {q} h w e =
+    omega (arith, shorter (drop p s) st (drop q s) (sym e), length-drop p s, length-drop q s)

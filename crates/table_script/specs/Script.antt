@@ -1,12 +1,10 @@
 -- A script on a placing table: at most 1024 lines, each a step, `offer=op,start`, `book=op,start,instance` or
 -- `place=op,start`. Lines and numbers as in a sheet, none with a minus.
-use Rattle.std.specs.Prelude.{ℕ, zero, suc, ◌≤◌, List, [], ◌∷◌, ◌++◌, length, drop}
+use Rattle.std.specs.Prelude.{ℕ, zero, suc, List, [], ◌∷◌, ◌++◌, length, drop, Option, Some, None}
 use Rattle.scan.specs.Line.{no_minus, line_of, on_fields}
 use Rattle.scan.specs.Plain.{number_at}
 use Rattle.table_script.specs.declared.Step.{Step}
 use Rattle.table_script.specs.declared.Step.TheVariants.{Offer, Book, Place}
-use Rattle.table_script.specs.declared.StepLine.{StepLine}
-use Rattle.table_script.specs.declared.StepLine.TheVariants.{Read, Malformed}
 
 -- ---- one line
 
@@ -72,11 +70,6 @@ fault_of (fault n) = n
 -- ---- what is found at a place of the bytes s
 
 -- a step and the bytes from the place after its line on, or that there is none
-unfoldable pub seen : List ℕ → StepLine → StepRead
-seen s (Read st p) = read st (drop p s)
-seen s Malformed = malformed
-
--- the place after the line lies within s
-unfoldable pub within : List ℕ → StepLine → Type 0
-within s (Read st p) = p ≤ length s
-within s Malformed = Unit {0}
+abbrev pub seen : List ℕ → Option (Step × ℕ) → StepRead
+seen s (Some (st, p)) = read st (drop p s)
+seen s None = malformed

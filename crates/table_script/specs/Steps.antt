@@ -1,16 +1,14 @@
 -- A script as the code meets it: one law for each way that a line can go.
 -- Assumes nothing.
-use Rattle.std.specs.Prelude.{◌≡◌, true, false, pos, length, drop}
-use Rattle.std.proofs.Math.Path.{refl, sym, ap}
-use Rattle.std.proofs.Common.{subst, ◌∙◌, arith}
+use Rattle.std.specs.Prelude.{◌≡◌, pos, length, drop, Option, IfSome}
+use Rattle.std.proofs.Math.Path.{refl}
+use Rattle.std.proofs.Common.{arith}
 use mathlib.Core.List.{List, [], ◌∷◌, ◌++◌}
 use Prim.Native.Nat.{ℕ, zero, suc, ◌≤◌, ◌<◌}
 use Rattle.scan.specs.Line.{fields, bad, no_minus, line_of}
 use Rattle.table_script.specs.declared.Step.{Step}
 use Rattle.table_script.specs.declared.Step.TheVariants.{Offer, Book, Place}
-use Rattle.table_script.specs.declared.StepLine.{StepLine}
-use Rattle.table_script.specs.declared.StepLine.TheVariants.{Read, Malformed}
-use Rattle.table_script.specs.Script.{offer_key, book_key, place_key, StepRead, read, malformed, step_of, seen, within}
+use Rattle.table_script.specs.Script.{offer_key, book_key, place_key, StepRead, read, malformed, step_of, seen}
 use Rattle.table_script.specs.Script.{steps, fault, steps_from}
 
 -- ---- the step of a line
@@ -40,26 +38,11 @@ module _ (bs : List ℕ) where
 -- ---- what `read_step` gives
 
 -- what its contract says of a result at a place of the bytes s
-abbrev pub ReadAt : List ℕ → ℕ → StepLine → Type 0
-ReadAt s at r = (seen s r ≡ step_of (drop at s)) × within s r
-
--- ---- what a caller has of a result
+abbrev pub ReadAt : List ℕ → ℕ → Option (Step × ℕ) → Type 0
+ReadAt s at r = (seen s r ≡ step_of (drop at s)) × IfSome r (λ x. x.1 ≤ length s)
 
 pub no_read : {st : Step} {rest : List ℕ} → read st rest ≡ malformed → ⊥
 no_read e = let z : ◌≡◌ {A = ℕ} 0 1 = cc in omega arith
-
-module _ (s : List ℕ) {n : StepRead} {r : StepLine} where
-  pub seen_read : {st : Step} {q : ℕ} → seen s r ≡ n → r ≡ Read st q → n ≡ read st (drop q s)
-  unfolding seen
-  seen_read e g = sym e ∙ ap (seen s) g
-
-  pub seen_malformed : seen s r ≡ n → r ≡ Malformed → n ≡ malformed
-  unfolding seen
-  seen_malformed e g = sym e ∙ ap (seen s) g
-
-pub within_read : (s : List ℕ) {r : StepLine} {st : Step} {q : ℕ} → within s r → r ≡ Read st q → q ≤ length s
-unfolding within
-within_read s w g = subst (within s) g w
 
 -- ---- the lines
 

@@ -2,8 +2,8 @@
 // order, and nothing more. It knows no sheet and no table: what a step does is told elsewhere.
 #![tactic(auto)]
 
-ghost use Rattle.std.specs.Prelude.{◌≡◌, drop};
-ghost use Rattle.table_script.specs.Script.{step_of, seen, within, script_of, fault_of};
+ghost use Rattle.std.specs.Prelude.{◌≡◌, ◌≤◌, drop, length, IfSome};
+ghost use Rattle.table_script.specs.Script.{step_of, seen, script_of, fault_of};
 
 use scan::read_plain;
 
@@ -19,33 +19,25 @@ pub enum Step {
     Place(usize, usize),
 }
 
-// A step and the place after its line, or that the line is none.
-#[derive(Clone, Copy)]
-pub enum StepLine {
-    Read(Step, usize),
-    Malformed,
-}
-
-// The step whose line stands at `at`.
-#[tactic(auto, using(crate::specs::Steps::offer_step, crate::specs::Steps::book_step, crate::specs::Steps::place_step, crate::specs::Steps::no_step), unfolding(crate::specs::Script::seen, crate::specs::Script::within))]
-pub fn read_step(bytes: &[u8], at: usize) -> StepLine
+// The step whose line stands at `at`, and the place after that line.
+#[tactic(auto, using(crate::specs::Steps::offer_step, crate::specs::Steps::book_step, crate::specs::Steps::place_step, crate::specs::Steps::no_step))]
+pub fn read_step(bytes: &[u8], at: usize) -> Option<(Step, usize)>
     ensures result_value { seen bytes.now result ≡ step_of (drop at bytes.now) }
-    ensures within { within bytes.now result }
+    ensures within { IfSome result (λ r. r.1 ≤ length bytes.now) }
 {
     if let Some(offer) = read_plain(bytes, at, b"offer=", 2) {
-        return StepLine::Read(Step::Offer(offer.first, offer.second), offer.next);
+        return Some((Step::Offer(offer.first, offer.second), offer.next));
     }
     if let Some(book) = read_plain(bytes, at, b"book=", 3) {
         let step = Step::Book(book.first, book.second, book.third);
-        return StepLine::Read(step, book.next);
+        return Some((step, book.next));
     }
-    if let Some(place) = read_plain(bytes, at, b"place=", 2) {
-        return StepLine::Read(Step::Place(place.first, place.second), place.next);
-    }
-    StepLine::Malformed
+    let place = read_plain(bytes, at, b"place=", 2)?;
+    Some((Step::Place(place.first, place.second), place.next))
 }
 
 // The number of the first line that is no step, or is past the most, counted from 1; 0 where every line is a step.
+#[tactic(auto, using(crate::specs::Walk::first, crate::specs::Walk::fault_none, crate::specs::Walk::fault_over, crate::specs::Walk::fault_at_lem, crate::specs::Walk::again))]
 pub fn line_at_fault(bytes: &[u8]) -> usize
     ensures { result ≡ fault_of (script_of bytes.now) }
 {
@@ -56,8 +48,8 @@ pub fn line_at_fault(bytes: &[u8]) -> usize
             return i + 1;
         }
         match read_step(bytes, p) {
-            StepLine::Read(_, next) => p = next,
-            StepLine::Malformed => return i + 1,
+            Some((_, next)) => p = next,
+            None => return i + 1,
         }
         i += 1;
     }
