@@ -129,21 +129,22 @@ fn print_page_of_plan(
 ) -> io::Result<()> {
     let mut input = [0u8; INPUT];
     let n = read_second(rt, &mut input)?;
-    let plan = match plan_lines::read(&input[..n]) {
-        Ok(plan) => plan,
+    match plan_lines::read(&input[..n]) {
+        Ok(plan) => {
+            if plan.interval != interval {
+                told::another_interval(rt);
+                return Ok(());
+            }
+            let count = plan.count;
+            let starts = plan.starts;
+            let instances = plan.instances;
+            print_page(rt, interval, &starts[..count], &instances[..count])
+        }
         Err(fault) => {
             told::no_plan(rt, fault);
-            return Ok(());
+            Ok(())
         }
-    };
-    if plan.interval != interval {
-        told::another_interval(rt);
-        return Ok(());
     }
-    let count = plan.count;
-    let starts = plan.starts;
-    let instances = plan.instances;
-    print_page(rt, interval, &starts[..count], &instances[..count])
 }
 
 // The same as `print` for a script.
