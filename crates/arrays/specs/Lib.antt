@@ -1,4 +1,2 @@
 -- ---- definitions to believe
 pub mod Cut
--- ---- laws
-pub mod CutLaws

@@ -9,14 +9,8 @@ use sizes::MOST_OPERATIONS;
 pub fn cut(n: usize, xs: [usize; MOST_OPERATIONS]) -> [usize; MOST_OPERATIONS]
     ensures { Cut n xs result }
 {
-    let end = if n < MOST_OPERATIONS {
-        n
-    } else {
-        MOST_OPERATIONS
-    };
+    let end = n.min(MOST_OPERATIONS);
     let mut out = [0usize; MOST_OPERATIONS];
-    for i in 0..end {
-        out[i] = xs[i];
-    }
+    out[..end].copy_from_slice(&xs[..end]);
     out
 }

@@ -2,16 +2,17 @@
 // An inner layer, a crate of its own for the check's time. Caller: `constraints`, as for `walks`.
 #![tactic(auto)]
 
-ghost use Rattle.std.specs.Prelude.{◌≡◌, List, ℕ, ◌≤◌, ◌<◌, ◌+ℤ◌};
+ghost use Rattle.std.specs.Prelude.{◌≡◌, List, ℕ, MatchOption, ◌≤◌, ◌<◌, ◌+ℤ◌};
 ghost use Rattle.sizes.specs.Sizes.{most_operations};
 ghost use Rattle.laws.specs.Entry.{at, cell};
+ghost use Rattle.laws.specs.Says.{Says};
 ghost use Rattle.net.specs.Walk.{Bad};
 ghost use Rattle.net.specs.Net.{web_of, NetOk};
 ghost use Rattle.walks.specs.Found.{FirstLoop};
 ghost use Rattle.walks.specs.Table.{Step, RowWithin, Bounded};
-ghost use Rattle.walks.specs.Closes.{closes_z};
-ghost use Rattle.walks.specs.Trail.{Middle, GoesOn, Picked, Trail, Trailed};
-ghost use Rattle.walks.specs.Opening.{FirstEdge, Opening, Opened};
+ghost use Rattle.walks.specs.Closes.{Closes};
+ghost use Rattle.walks.specs.Trail.{Middle, GoesOn, Passed, Picked, Trail, Trailed};
+ghost use Rattle.walks.specs.Opening.{Open, FirstEdge, Opening, Opened};
 ghost use Rattle.walks.specs.Back.{Backs, AfterRow};
 
 use net::Net;
@@ -21,12 +22,9 @@ use walks::{NO_WALK, pass, relaxed, still, still_row};
 // Whether an edge closes a bad walk, where `back` is the greatest sum of the walks back.
 fn closes(weight: i32, back: i32) -> bool
     requires { Step back weight }
-    ensures { result ≡ closes_z weight back }
+    ensures { Says (Closes weight back) result }
 {
-    if back <= NO_WALK {
-        return false;
-    }
-    0 < weight + back
+    NO_WALK < back && 0 < weight + back
 }
 
 // The walks to a place, of at most one edge more.
@@ -35,11 +33,11 @@ fn back_row(net: Net, row: [i32; MOST_OPERATIONS]) -> [i32; MOST_OPERATIONS]
     ensures { AfterRow (web_of net) row result net.count }
 {
     let mut out = row;
-    let count = net.count as usize;
-    for e in 0..count {
-        let i = net.from[e] as usize;
-        let j = net.to[e] as usize;
-        out[i] = relaxed(out[i], row[j], net.weight[e]);
+    let count = usize::from(net.count);
+    for arc in &net.arcs[..count] {
+        let i = usize::from(arc.from);
+        let j = usize::from(arc.to);
+        out[i] = relaxed(out[i], row[j], arc.weight);
     }
     out
 }
@@ -64,27 +62,22 @@ fn goes_on(from: u8, u: u8, s: i32, weight: i32, back: i32) -> bool
     requires { Middle s × Middle weight × Step back weight }
     ensures { GoesOn from u (s +ℤ weight) back result }
 {
-    if from == u {
-        return closes(s + weight, back);
-    }
-    false
+    from == u && closes(s + weight, back)
 }
 
-// The least edge that goes on from u, or the number of edges.
-fn pick(net: Net, row: [i32; MOST_OPERATIONS], u: u8, v: u8, s: i32) -> usize
+// The least edge that goes on from u.
+fn pick(net: Net, row: [i32; MOST_OPERATIONS], u: u8, s: i32) -> Option<usize>
     requires { NetOk (web_of net) × RowWithin row × Middle s }
-    ensures { Picked (web_of net) (λ x y. at row x) s u v result }
+    ensures { MatchOption result (Passed (web_of net) (at row) s u net.count) (λ e. Picked (web_of net) (at row) s u e) }
 {
-    let n = net.count as usize;
-    let mut e = 0usize;
-    while e < n {
-        let i = net.to[e] as usize;
-        if goes_on(net.from[e], u, s, net.weight[e], row[i]) {
-            return e;
+    let count = usize::from(net.count);
+    for (e, arc) in net.arcs[..count].iter().enumerate() {
+        let j = usize::from(arc.to);
+        if goes_on(arc.from, u, s, arc.weight, row[j]) {
+            return Some(e);
         }
-        e += 1;
     }
-    e
+    None
 }
 
 // The rest of the walk: `left` edges from u to v, written from place i on, where s is the sum so far.
@@ -105,37 +98,27 @@ fn trail(
         return out;
     }
     let row = back[left - 1];
-    let e = pick(net, row, u, v, s);
+    let e = pick(net, row, u, s).unwrap();
+    let arc = net.arcs[e];
     let mut next = out;
     next[i] = e;
-    trail(
-        net,
-        back,
-        next,
-        i + 1,
-        left - 1,
-        net.to[e],
-        v,
-        s + net.weight[e],
-    )
+    trail(net, back, next, i + 1, left - 1, arc.to, v, s + arc.weight)
 }
 
-// The least edge that closes a bad walk, or the number of edges.
-fn first_edge(net: Net, w: [[i32; MOST_OPERATIONS]; MOST_OPERATIONS]) -> usize
+// The least edge that closes a bad walk.
+fn first_edge(net: Net, w: [[i32; MOST_OPERATIONS]; MOST_OPERATIONS]) -> Option<usize>
     requires { NetOk (web_of net) × Bounded w }
-    ensures { FirstEdge (web_of net) (cell w) result }
+    ensures { MatchOption result (Open (web_of net) (cell w) net.count) (λ e. FirstEdge (web_of net) (cell w) e) }
 {
-    let n = net.count as usize;
-    let mut e: usize = 0;
-    while e < n {
-        let i = net.to[e] as usize;
-        let j = net.from[e] as usize;
-        if closes(net.weight[e], w[i][j]) {
-            return e;
+    let count = usize::from(net.count);
+    for (e, arc) in net.arcs[..count].iter().enumerate() {
+        let i = usize::from(arc.to);
+        let j = usize::from(arc.from);
+        if closes(arc.weight, w[i][j]) {
+            return Some(e);
         }
-        e += 1;
     }
-    e
+    None
 }
 
 // The walk that edge e opens, of k edges more.
@@ -145,12 +128,13 @@ fn walk_from(net: Net, k: usize, e: usize) -> [usize; MOST_OPERATIONS]
 {
     let mut out = [0usize; MOST_OPERATIONS];
     out[0] = e;
-    let v = net.from[e];
-    let back = backs(net, v as usize, k);
-    trail(net, back, out, 1, k, net.to[e], v, net.weight[e])
+    let arc = net.arcs[e];
+    let back = backs(net, usize::from(arc.from), k);
+    trail(net, back, out, 1, k, arc.to, arc.from, arc.weight)
 }
 
 // A closed walk: the numbers of its edges, and 0 past them.
+// Kept: an array with a length, as memory is fixed.
 #[derive(Clone, Copy)]
 pub struct Loop {
     pub length: usize,
@@ -162,12 +146,10 @@ pub fn first_bad(net: Net) -> Loop
     requires { NetOk (web_of net) × ((p : List ℕ) × Bad (web_of net) p) }
     ensures { FirstLoop (web_of net) result.length result.edges }
 {
-    let count = net.count as usize;
     let mut w = still();
     let mut k: usize = 0;
     loop {
-        let e = first_edge(net, w);
-        if e < count {
+        if let Some(e) = first_edge(net, w) {
             let edges = walk_from(net, k, e);
             return Loop {
                 length: k + 1,

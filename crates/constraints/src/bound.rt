@@ -17,13 +17,9 @@ pub fn recurrence_bound(graph: Graph, cap: usize) -> Bound
     ensures { BoundAnswer graph cap result.answer result.value }
 {
     if in_range(graph) && interval_ok(cap) {
-        let mut l: usize = 1;
-        while l <= cap {
+        for l in 1..cap + 1 {
             let net = net_of(graph, l);
-            let s = settle(net, [0; MOST_OPERATIONS]);
-            if s.bad {
-                l += 1;
-            } else {
+            if settle(net, [0; MOST_OPERATIONS]).is_some() {
                 return Bound {
                     answer: 0,
                     value: l,

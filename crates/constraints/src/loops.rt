@@ -30,22 +30,21 @@ fn without_loop(answer: usize) -> BadWalk
 pub fn bad_walk(graph: Graph, interval: usize) -> BadWalk
     ensures { WalkAnswer graph interval result.answer result.loop_length result.loop_edges }
 {
-    if in_range(graph) {
-        if interval_ok(interval) {
-            let net = net_of(graph, interval);
-            let s = settle(net, [0; MOST_OPERATIONS]);
-            if s.bad {
-                let w = first_bad(net);
-                let loop_edges = w.edges;
-                return BadWalk {
-                    answer: 5,
-                    loop_length: w.length,
-                    loop_edges,
-                };
-            }
-            return without_loop(0);
-        }
+    if !in_range(graph) {
+        return without_loop(3);
+    }
+    if !interval_ok(interval) {
         return without_loop(4);
     }
-    without_loop(3)
+    let net = net_of(graph, interval);
+    if settle(net, [0; MOST_OPERATIONS]).is_some() {
+        return without_loop(0);
+    }
+    let w = first_bad(net);
+    let loop_edges = w.edges;
+    BadWalk {
+        answer: 5,
+        loop_length: w.length,
+        loop_edges,
+    }
 }

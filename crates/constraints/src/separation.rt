@@ -15,11 +15,9 @@ pub fn separations(graph: Graph, interval: usize) -> [[i32; MOST_OPERATIONS]; MO
 {
     if in_range(graph) && interval_ok(interval) {
         let net = net_of(graph, interval);
-        let s = settle(net, [0; MOST_OPERATIONS]);
-        if s.bad {
-            return [[0; MOST_OPERATIONS]; MOST_OPERATIONS];
+        if settle(net, [0; MOST_OPERATIONS]).is_some() {
+            return greatest(net);
         }
-        return greatest(net);
     }
     [[0; MOST_OPERATIONS]; MOST_OPERATIONS]
 }

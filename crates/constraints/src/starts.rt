@@ -33,30 +33,28 @@ fn refused(answer: usize) -> Starts
 pub fn earliest(graph: Graph, interval: usize, floor: [usize; MOST_OPERATIONS]) -> Starts
     ensures { StartsAnswer graph interval floor result.answer result.starts result.loop_length result.loop_edges }
 {
-    if floor_ok(graph, floor) {
-        if interval_ok(interval) {
-            let net = net_of(graph, interval);
-            let base = cut(graph.ops, floor);
-            let s = settle(net, base);
-            if s.bad {
-                let w = first_bad(net);
-                let loop_edges = w.edges;
-                return Starts {
-                    answer: 5,
-                    starts: [0; MOST_OPERATIONS],
-                    loop_length: w.length,
-                    loop_edges,
-                };
-            }
-            let starts = s.at;
-            return Starts {
-                answer: 0,
-                starts,
-                loop_length: 0,
-                loop_edges: [0; MOST_OPERATIONS],
-            };
-        }
+    if !floor_ok(graph, floor) {
+        return refused(3);
+    }
+    if !interval_ok(interval) {
         return refused(4);
     }
-    refused(3)
+    let net = net_of(graph, interval);
+    let base = cut(graph.ops, floor);
+    if let Some(starts) = settle(net, base) {
+        return Starts {
+            answer: 0,
+            starts,
+            loop_length: 0,
+            loop_edges: [0; MOST_OPERATIONS],
+        };
+    }
+    let w = first_bad(net);
+    let loop_edges = w.edges;
+    Starts {
+        answer: 5,
+        starts: [0; MOST_OPERATIONS],
+        loop_length: w.length,
+        loop_edges,
+    }
 }

@@ -13,10 +13,7 @@ pub fn offset(interval: usize, s: usize, b: usize) -> usize
     requires { (b < interval) × (s < interval) }
     ensures { result ≡ off interval s b }
 {
-    if b < s {
-        return interval - (s - b);
-    }
-    b - s
+    if b < s { interval - (s - b) } else { b - s }
 }
 
 // Whether starts hold a slot in common where nothing comes round, as at interval 0.
@@ -25,9 +22,10 @@ fn meet_on_a_line(first: usize, second: usize, t: usize, u: usize) -> bool
     ensures { Says (Meet 0 first second t u) result }
 {
     if t <= u {
-        return u - t < first;
+        u - t < first
+    } else {
+        t - u < second
     }
-    t - u < second
 }
 
 // The same round the interval's slots.
@@ -37,29 +35,24 @@ fn meet_on_a_circle(interval: usize, first: usize, second: usize, t: usize, u: u
 {
     let s = t % interval;
     let b = u % interval;
-    if offset(interval, s, b) < first {
-        return true;
-    }
-    offset(interval, b, s) < second
+    offset(interval, s, b) < first || offset(interval, b, s) < second
 }
 
 // Whether the start t, which holds `first` slots, and the start u, which holds `second` slots, hold one in common.
 pub fn meet(interval: usize, first: usize, second: usize, t: usize, u: usize) -> bool
     ensures { Says (Meet interval first second t u) result }
 {
-    if first == 0 {
-        return false;
+    if first == 0 || second == 0 {
+        false
+    } else if interval == 0 {
+        meet_on_a_line(first, second, t, u)
+    } else {
+        meet_on_a_circle(interval, first, second, t, u)
     }
-    if second == 0 {
-        return false;
-    }
-    if interval == 0 {
-        return meet_on_a_line(first, second, t, u);
-    }
-    meet_on_a_circle(interval, first, second, t, u)
 }
 
 // Whether the start t, which holds `busy` slots, holds this one.
+#[tactic(auto, using(crate::specs::HeldLaws::held_flag))]
 pub fn holds(interval: usize, busy: usize, t: usize, slot: usize) -> bool
     requires { slot < interval }
     ensures { result ≡ holds_slot interval busy t slot }

@@ -50,12 +50,9 @@ pub fn lags(graph: Graph, interval: usize) -> [[i32; MOST_OPERATIONS]; MOST_OPER
         let net = net_of(graph, interval);
         let ops = graph.ops;
         for i in 0..ops {
-            let f = peak(i);
-            let s = settle(net, f);
-            if s.bad {
+            let Some(at) = settle(net, peak(i)) else {
                 return [[0; MOST_OPERATIONS]; MOST_OPERATIONS];
-            }
-            let at = s.at;
+            };
             out[i] = lag_row(ops, at);
         }
     }

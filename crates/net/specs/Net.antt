@@ -1,21 +1,36 @@
 -- The machine's net as a web of edges, and the bounds that its numbers keep. Assumes nothing.
-use Rattle.std.specs.Prelude.{List, ℕ, ◌≤◌, ◌<◌, pos, get_or}
+use Rattle.std.specs.Prelude.{◌≡◌, List, ℕ, ℤ, ◌≤◌, ◌<◌, pos, get_or}
 use Rattle.std.proofs.Common.{arith}
 use Rattle.sizes.specs.Sizes.{most_edges, most_operations}
 use Rattle.net.specs.Walk.{Web}
 use Rattle.net.specs.Small.{Small}
+use Rattle.net.specs.declared.Arc.{Arc}
 use Rattle.net.specs.declared.Net.{Net}
 use Rattle.laws.specs.Entry.{vec}
 
--- the edges that the arrays of a net hold
+-- what stands past the edges
+abbrev pub no_arc : Arc
+no_arc = record { from = 0; to = 0; weight = pos 0 }
+
+-- edge k
+abbrev pub arc_at : Net → ℕ → Arc
+arc_at n k = get_or n.arcs k no_arc
+
+-- the edges that the array of a net holds
 abbrev pub web_of : Net → Web
 web_of n = record {
   ops = n.ops;
   count = n.count;
-  from = λ k. get_or n.from k 0;
-  to = λ k. get_or n.to k 0;
-  weight = λ k. get_or n.weight k (pos 0);
+  from = λ k. (arc_at n k).from;
+  to = λ k. (arc_at n k).to;
+  weight = λ k. (arc_at n k).weight;
 }
+
+-- edge e leads from i to j, with the weight w
+pub record ArcIs (g : Web) (e i : ℕ) (w : ℤ) (j : ℕ) : Type 0 where
+  pub from : i ≡ g.from e
+  pub weight : w ≡ g.weight e
+  pub to : j ≡ g.to e
 
 -- as many operations and edges as the arrays hold, and small weights
 pub record NetOk (g : Web) : Type 0 where

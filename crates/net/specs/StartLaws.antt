@@ -1,5 +1,5 @@
 -- Earliest starts, by rounds over a vector. Assumes nothing.
-use Rattle.std.specs.Prelude.{◌≡◌, refl, List, [], ◌∷◌, ◌++◌, ℕ, ◌+◌, ◌*◌, ◌≤◌, ◌<◌, pos, ◌+ℤ◌, ◌≤ℤ◌, ◌<ℤ◌, length, set}
+use Rattle.std.specs.Prelude.{◌≡◌, refl, Bool, true, false, List, [], ◌∷◌, ◌++◌, ℕ, ◌+◌, ◌*◌, ◌≤◌, ◌<◌, ℤ, pos, ◌+ℤ◌, ◌≤ℤ◌, ◌<ℤ◌, length, set}
 use Rattle.std.proofs.Common.{sym, ap, subst, ◌∙◌, ⊎_elim, arith, length-append, length-set}
 use Rattle.std.proofs.Math.Decide.{ℕ_discrete}
 use Rattle.std.proofs.Math.IntN.{+ℤ_idr}
@@ -11,9 +11,9 @@ use Rattle.net.specs.Walk.{Web, Walk, sum_of, Bad, join, sum_join, start_ok, las
 use Rattle.net.specs.Shorten.{shorten}
 use Rattle.net.specs.Meaning.{Meets, Earliest}
 use Rattle.net.specs.Meets.{along}
-use Rattle.net.specs.Net.{NetOk, from_in, to_in, Below, highest_floor}
+use Rattle.net.specs.Net.{NetOk, ArcIs, from_in, to_in, Below, highest_floor, highest_start}
 use Rattle.laws.specs.Entry.{vec}
-use Rattle.net.specs.Starts.{Pushed, Real, Part}
+use Rattle.net.specs.Starts.{Addable, Pushed, Real, Part, AllMet, Settled}
 
 -- ---- a start after an edge
 
@@ -46,6 +46,17 @@ real_edge {g} {f} {z} {y} e l r i = record {
         sum (pos (f r.u)) (sum_of g (r.walk ++ (e ∷ []))),
       );
 }
+
+-- within a round the starts can be added to
+pub part_addable : {g : Web} {t o : List ℕ} {e i j : ℕ} {w : ℤ} → NetOk g → Below highest_start t → Part g t o e → ArcIs g e i w j → e < g.count → Addable (vec o i) w (vec o j)
+part_addable {g} {t} {o} {e} {i} {j} {w} n b h a l =
+    let grown = h.grows highest_start b in
+    record {
+      from_ok = omega (arith, a.from, grown i (omega (arith, a.from, from_in n e l)), n.count_ok);
+      to_ok = omega (arith, a.to, grown j (omega (arith, a.to, to_in n e l)), n.count_ok);
+      low = omega (arith, zed, a.weight, n.small.low e l);
+      high = omega (arith, zed, a.weight, n.small.high e l);
+    }
 
 module _ {g : Web} (n : NetOk g) (t o : List ℕ) (e x : ℕ) (l : e < g.count) (h : Part g t o e) (p : Pushed (vec o (g.from e)) (g.weight e) (vec o (g.to e)) x) where
   inside : g.to e < length o
@@ -83,6 +94,15 @@ module _ {g : Web} (n : NetOk g) (t o : List ℕ) (e x : ℕ) (l : e < g.count) 
       old : {k : ℕ} (y : ℕ) → y < e + 1 → g.to y ≡ k → ¬ (y ≡ e) → (pos (vec t (g.from y)) +ℤ g.weight y) ≤ℤ pos (vec o k)
       old y ly i ne = subst (λ (v : ℕ). (pos (vec t (g.from y)) +ℤ g.weight y) ≤ℤ pos (vec o v)) i (h.takes y (omega arith))
 
+-- one edge more
+pub part_more : {g : Web} {t o : List ℕ} {e i j x : ℕ} {w : ℤ} → NetOk g → Part g t o e → ArcIs g e i w j → e < g.count → Pushed (vec o i) w (vec o j) x → Part g t (set o j x) (e + 1)
+part_more {g} {t} {o} {e} {i} {j} {x} {w} n h a l p =
+    subst (λ (k : ℕ). Part g t (set o k x) (e + 1)) (sym a.to)
+    (part_next n t o e x l h
+    (subst (λ (k : ℕ). Pushed (vec o k) (g.weight e) (vec o (g.to e)) x) a.from
+    (subst (λ (z : ℤ). Pushed (vec o i) z (vec o (g.to e)) x) a.weight
+    (subst (λ (k : ℕ). Pushed (vec o i) w (vec o k) x) a.to p))))
+
 -- ---- rounds
 
 -- each start in t is at least what any walk of at most k edges to it asks: the floor f where the walk begins, plus its
@@ -108,8 +128,8 @@ cover_next {g} n f k t r c q = record { covers = go }
     go u v (j ∷ p) h l w =
         let z = last g u v j p w in
         let s = sum_of g z.init in
-        let a = c.covers u (g.from z.e) z.init (from_in n z.e z.in_range_lem) (omega (arith, z.size)) z.walk in
-        let b = q.takes z.e z.in_range_lem in
+        let a = c.covers u (g.from z.e) z.init (from_in n z.e z.in_range) (omega (arith, z.size)) z.walk in
+        let b = q.takes z.e z.in_range in
         subst (λ (x : ℕ). (pos (f u) +ℤ sum_of g (j ∷ p)) ≤ℤ pos (vec r x)) z.ends
         (omega (
           arith,
@@ -188,4 +208,16 @@ past {g} n f v z l r = go r.u r.walk r.is r.same
   where
     go : (u : ℕ) (p : List ℕ) → Walk g u v p → pos z ≡ pos (f u) +ℤ sum_of g p → z ≡ f v
     go u [] w i = subst (λ (x : ℕ). z ≡ f x) w (omega (arith, zed, i, sum (pos (f u)) (pos 0)))
-    go u (j ∷ p) w i = let q = last g u v j p w in absurd (omega (arith, n.small.whole.to_ok q.e q.in_range_lem, q.ends))
+    go u (j ∷ p) w i = let q = last g u v j p w in absurd (omega (arith, n.small.whole.to_ok q.e q.in_range, q.ends))
+
+-- an operation past the last keeps its floor, and the starts stay low
+pub settled_starts : {g : Web} (f : List ℕ) {t : List ℕ} {k : ℕ} {r : Bool} → NetOk g → Stands g (vec f) k t → k ≤ most_operations → AllMet g t r → r ≡ true → Settled g f t
+settled_starts {g} f {t} {k} n s b m e = record {
+  earliest = settled n (vec f) k t s (m.yes e);
+  past = λ v h l. past n (vec f) v (vec t v) h (s.real v l);
+  few = λ v l. omega (arith, s.few v l);
+}
+
+-- an edge that is not met after the last round: a bad closed walk
+pub stuck_bad : {g : Web} (f : List ℕ) {t : List ℕ} {k : ℕ} {r : Bool} → NetOk g → Stands g (vec f) k t → AllMet g t r → r ≡ false → g.ops ≤ k + 1 → (p : List ℕ) × Bad g p
+stuck_bad {g} f {t} {k} n s m e h = let u = m.no e in stuck n (vec f) k t s h u.0 u.1 u.2

@@ -3,7 +3,7 @@
 use Rattle.std.specs.Prelude.{◌≡◌, Bool, true, false, ◌⊎◌, List, ℕ, ◌+◌, ◌*◌, ◌≤◌, ◌<◌, ℤ, pos, ◌+ℤ◌, ◌≤ℤ◌, ◌<ℤ◌, length}
 use Rattle.sizes.specs.Sizes.{most_operations}
 use Rattle.net.specs.Small.{most_weight, lowest_weight, highest_weight}
-use Rattle.net.specs.Walk.{Web, Walk, sum_of, Bad}
+use Rattle.net.specs.Walk.{Web, Walk, sum_of}
 use Rattle.net.specs.Meaning.{Meets, Earliest}
 use Rattle.net.specs.Net.{Below, highest_start, highest_pushed}
 use Rattle.laws.specs.Entry.{vec}
@@ -41,9 +41,8 @@ pub record AllMet (g : Web) (t : List ℕ) (r : Bool) : Type 0 where
   pub yes : r ≡ true → Meets g (λ v. pos (vec t v))
   pub no : r ≡ false → (e : ℕ) × (e < g.count) × (pos (vec t (g.to e)) <ℤ (pos (vec t (g.from e)) +ℤ g.weight e))
 
--- what settling a floor gives
-pub record Settles (g : Web) (f : List ℕ) (bad : Bool) (t : List ℕ) : Type 0 where
-  pub some : bad ≡ true → (p : List ℕ) × Bad g p
-  pub none : bad ≡ false → Earliest g (vec f) (vec t)
-  pub past : bad ≡ false → (v : ℕ) → g.ops ≤ v → v < most_operations → vec t v ≡ vec f v
+-- the starts that a floor settles at: the earliest, and the floor past the operations
+pub record Settled (g : Web) (f t : List ℕ) : Type 0 where
+  pub earliest : Earliest g (vec f) (vec t)
+  pub past : (v : ℕ) → g.ops ≤ v → v < most_operations → vec t v ≡ vec f v
   pub few : Below highest_start t

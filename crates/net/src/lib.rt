@@ -7,28 +7,29 @@
 // the operations.
 #![tactic(auto)]
 
-ghost use Rattle.std.specs.Prelude.{◌≡◌, ◌≤◌, pos, ◌+ℤ◌};
+ghost use Rattle.std.specs.Prelude.{◌≡◌, List, ℕ, MatchOption, ◌≤◌, pos, ◌+ℤ◌};
 ghost use Rattle.std.specs.Int.Signed.{le_z};
+ghost use Rattle.net.specs.Walk.{Bad};
 ghost use Rattle.net.specs.Net.{web_of, NetOk, Below, highest_floor, highest_start};
-ghost use Rattle.net.specs.Starts.{Addable, Pushed, Part, AllMet, Settles};
+ghost use Rattle.net.specs.Starts.{Addable, Pushed, Part, AllMet, Settled};
 
 use sizes::{MOST_EDGES, MOST_OPERATIONS};
 
+// An edge from an operation to an operation, with its weight.
+#[derive(Clone, Copy)]
+pub struct Arc {
+    pub from: u8,
+    pub to: u8,
+    pub weight: i32,
+}
+
 // Edges below `count`, from and to operations below `ops`.
+// Kept: an array with a count, as memory is fixed.
 #[derive(Clone, Copy)]
 pub struct Net {
     pub ops: u8,
     pub count: u8,
-    pub from: [u8; MOST_EDGES],
-    pub to: [u8; MOST_EDGES],
-    pub weight: [i32; MOST_EDGES],
-}
-
-// The least starts over a floor, or that a bad closed walk exists.
-#[derive(Clone, Copy)]
-pub struct Settled {
-    pub bad: bool,
-    pub at: [usize; MOST_OPERATIONS],
+    pub arcs: [Arc; MOST_EDGES],
 }
 
 // A start, after an edge to it.
@@ -46,11 +47,11 @@ fn push_round(net: Net, t: [usize; MOST_OPERATIONS]) -> [usize; MOST_OPERATIONS]
     ensures { Part (web_of net) t result net.count }
 {
     let mut out = t;
-    let count = net.count as usize;
-    for e in 0..count {
-        let i = net.from[e] as usize;
-        let j = net.to[e] as usize;
-        out[j] = pushed(out[i], net.weight[e], out[j]);
+    let count = usize::from(net.count);
+    for arc in &net.arcs[..count] {
+        let i = usize::from(arc.from);
+        let j = usize::from(arc.to);
+        out[j] = pushed(out[i], arc.weight, out[j]);
     }
     out
 }
@@ -66,14 +67,11 @@ fn all_met(net: Net, t: [usize; MOST_OPERATIONS]) -> bool
     requires { NetOk (web_of net) × Below highest_start t }
     ensures { AllMet (web_of net) t result }
 {
-    let count = net.count as usize;
-    let mut e: usize = 0;
-    while e < count {
-        let i = net.from[e] as usize;
-        let j = net.to[e] as usize;
-        if met(t[i], net.weight[e], t[j]) {
-            e += 1;
-        } else {
+    let count = usize::from(net.count);
+    for arc in &net.arcs[..count] {
+        let i = usize::from(arc.from);
+        let j = usize::from(arc.to);
+        if !met(t[i], arc.weight, t[j]) {
             return false;
         }
     }
@@ -81,24 +79,18 @@ fn all_met(net: Net, t: [usize; MOST_OPERATIONS]) -> bool
 }
 
 // The least starts that are at least the floor and meet every edge, by rounds over the edges; as many rounds as there
-// are operations settle them, or a bad closed walk exists.
-pub fn settle(net: Net, floor: [usize; MOST_OPERATIONS]) -> Settled
+// are operations settle them, or a bad closed walk exists, and there are none.
+pub fn settle(net: Net, floor: [usize; MOST_OPERATIONS]) -> Option<[usize; MOST_OPERATIONS]>
     requires { NetOk (web_of net) × (1 ≤ net.ops) × Below highest_floor floor }
-    ensures { Settles (web_of net) floor result.bad result.at }
+    ensures { MatchOption result ((p : List ℕ) × Bad (web_of net) p) (λ t. Settled (web_of net) floor t) }
 {
-    let n = net.ops as usize;
     let mut t = floor;
-    let mut k: usize = 0;
-    while k < n {
+    for _round in 0..net.ops {
         if all_met(net, t) {
-            return Settled { bad: false, at: t };
+            return Some(t);
         }
         let next = push_round(net, t);
         t = next;
-        k += 1;
     }
-    Settled {
-        bad: true,
-        at: [0; MOST_OPERATIONS],
-    }
+    None
 }
