@@ -52,7 +52,6 @@ pub fn meet(interval: usize, first: usize, second: usize, t: usize, u: usize) ->
 }
 
 // Whether the start t, which holds `busy` slots, holds this one.
-#[tactic(auto, using(crate::specs::HeldLaws::held_flag))]
 pub fn holds(interval: usize, busy: usize, t: usize, slot: usize) -> bool
     requires { slot < interval }
     ensures { result ≡ holds_slot interval busy t slot }
