@@ -33,9 +33,8 @@ fn first_plan(sheet: Sheet, graph: Graph, interval: usize) -> PlanAnswer
     let task = model::build::task_of(sheet, graph, interval, lags);
     let domain = model::allowed::allowed_domain(sheet, interval);
     let found = search::first_plan(task, domain);
-    if found.yes {
+    if let Some(x) = found {
         let n = sheet.op_count;
-        let x = found.starts;
         let starts = arrays::cut(n, x);
         let resource = task.resource;
         let limits = task.instances;

@@ -1,2 +1,4 @@
+-- ---- definitions to believe
+pub mod Search
 -- ---- laws
 pub mod StageLaws

@@ -5,143 +5,135 @@
 // Caller: schedule::plan_at, which proves `TaskOk` from the sheet and from what `dependence` promises.
 #![tactic(auto)]
 
-ghost use Rattle.std.specs.Prelude.{true, ◌<◌};
-ghost use Rattle.domain.specs.Domain.{Solved, FirstIn};
+ghost use Rattle.std.specs.Prelude.{◌≡◌, ◌<◌, true, is_some};
+ghost use Rattle.domain.specs.Domain.{FirstIn};
 ghost use Rattle.domain.specs.First.{Good, Lowered};
 ghost use Rattle.task.specs.Plan.{TaskOk, PlanOf};
-ghost use Rattle.search_steps.specs.Steps.{Budgeted};
+ghost use Rattle.search_steps.specs.Steps.{Budgeted, Settled};
+ghost use Rattle.search.specs.Search.{FirstPlan};
 
 mod anchors;
 mod stages;
 
 use domain::Domain;
-use search_steps::{
-    Blame, First, Found, Marks, answer, blamed, eager, fewer, look, no_answer, single, spent,
-};
+use search_steps::{Blame, Found, Marks, Starts, View, blamed, denies, eager, fewer, look, single};
 use sizes::{MOST_OPERATIONS, MOST_STARTS};
 use stages::some_plan;
 use task::Task;
 
-// A plan in the domain, or none; `dirty` marks the rows that are new to the rules. A bounded search is over after
-// `left` nodes, and then it says nothing. A node is one call.
-// Left free: which plan it is, `blame`, which only guides the search, `left`, `yes` where the search is over, and
-// `starts` where none was found and past `ops`.
-pub fn search(p: Task, ok: Domain, dirty: Marks, blame: Blame, bounded: bool, left: u32) -> Found
+// A plan in the domain, or none; `dirty` marks the rows that are new to the rules. A search with a budget is over after
+// so many nodes, and then it says nothing. A node is one call.
+// Left free: which plan it is, `blame`, which only guides the search, and how much of the budget is left.
+pub fn search(p: Task, ok: Domain, dirty: Marks, blame: Blame, budget: Option<u32>) -> Found
     requires { TaskOk p }
-    ensures { Budgeted (PlanOf p) p.ops ok bounded result.over result.yes result.starts }
+    ensures answer { Budgeted (PlanOf p) p.ops ok (is_some budget) result.answer }
+    ensures left { is_some result.left ≡ is_some budget }
 {
-    if spent(bounded, left) {
-        return no_answer(blame);
-    }
+    let mut rest = match fewer(budget) {
+        Ok(rest) => rest,
+        Err(over) => {
+            return Found {
+                answer: Err(over),
+                blame,
+                left: budget,
+            };
+        },
+    };
     let d = narrow::narrow(p, ok, dirty);
-    let k = look(p, d, blame);
-    let mut rest = fewer(left);
-    if k.done {
-        let starts = k.starts;
-        return answer(k.yes, starts, blame, rest);
-    }
-    let i = k.op;
-    let m = k.modulus;
-    let one = single(i);
+    let (i, m) = match look(p, d, blame) {
+        View::Answered(found) => {
+            return Found {
+                answer: Ok(found),
+                blame,
+                left: rest,
+            };
+        },
+        View::Split { op, modulus } => (op, modulus),
+    };
     let mut row = d[i];
     let mut counts = blame;
-    loop {
+    'classes: loop {
         let t = domain::least(row);
         if t == MOST_STARTS {
-            return answer(false, [0; MOST_OPERATIONS], counts, rest);
+            return Found {
+                answer: Ok(None),
+                blame: counts,
+                left: rest,
+            };
         }
-        let s = t % m;
         let mut c = d;
-        c[i] = domain::only_class(row, s, m);
-        let g = search(p, c, one, counts, bounded, rest);
-        if g.over {
+        c[i] = domain::only_class(row, t % m, m);
+        let g = search(p, c, single(i), counts, rest);
+        let none = denies(g.answer);
+        if !none {
             return g;
         }
-        if g.yes {
-            return g;
-        }
-        let told = g.blame;
-        let after = blamed(told, i);
+        let after = blamed(g.blame, i);
         counts = after;
         rest = g.left;
-        let others = domain::without_class(row, s, m);
+        let others = domain::without_class(row, t % m, m);
         row = others;
     }
 }
 
 // A plan in the domain, or none, without a bound.
-fn whole(p: Task, ok: Domain, dirty: Marks) -> Found
+fn whole(p: Task, ok: Domain, dirty: Marks) -> Option<Starts>
     requires { TaskOk p }
-    ensures { Solved (PlanOf p) p.ops ok result.yes result.starts }
+    ensures { Settled (PlanOf p) p.ops ok result }
 {
-    search(p, ok, dirty, [1; MOST_OPERATIONS], false, 0)
+    match search(p, ok, dirty, [1; MOST_OPERATIONS], None).answer {
+        Ok(found) => found,
+        // It does not come: without a bound no search is over.
+        Err(_) => None,
+    }
 }
 
 // A plan in the domain whose start of i is least, from some plan in it.
-fn lowered(p: Task, d: Domain, x: [usize; MOST_OPERATIONS], i: usize) -> [usize; MOST_OPERATIONS]
+fn lowered(p: Task, d: Domain, x: Starts, i: usize) -> Starts
     requires { TaskOk p × (i < p.ops) × Good (PlanOf p) p.ops d x }
     ensures { Lowered (PlanOf p) p.ops d i result }
 {
     let low = domain::least(d[i]);
-    let one = single(i);
     let mut best = x;
-    loop {
-        if best[i] == low {
-            return best;
-        }
+    while best[i] != low {
         let mut c = d;
         c[i] = domain::below(d[i], best[i]);
-        let lower = whole(p, c, one);
-        if lower.yes {
-            best = lower.starts;
-        } else {
+        let Some(lower) = whole(p, c, single(i)) else {
             return best;
-        }
+        };
+        best = lower;
     }
+    best
 }
 
 // The first plan in a narrowed domain, from some plan in it: each operation's start is lowered in turn.
-fn from_plan(p: Task, ok: Domain, some: [usize; MOST_OPERATIONS]) -> [usize; MOST_OPERATIONS]
+fn from_plan(p: Task, ok: Domain, some: Starts) -> Starts
     requires { TaskOk p × Good (PlanOf p) p.ops ok some }
     ensures { FirstIn (PlanOf p) p.ops ok true result }
 {
-    let ops = p.ops;
     let mut x = some;
     let mut d = ok;
-    let mut i: usize = 0;
-    while i < ops {
+    for i in 0..p.ops {
         let y = lowered(p, d, x, i);
         d[i] = domain::only(y[i]);
         let e = narrow::narrow(p, d, single(i));
         d = e;
         x = y;
-        i += 1;
     }
     x
 }
 
-// The first plan in the domain by the order of starts, or none. Left free: `starts` where none was found and past
-// `ops`; schedule::plan_at puts 0 there.
-pub fn first_plan(p: Task, ok: Domain) -> First
+// The first plan in the domain by the order of starts, or none. Left free: the starts past `ops`; schedule::plan_at
+// puts 0 there.
+pub fn first_plan(p: Task, ok: Domain) -> Option<Starts>
     requires { TaskOk p }
-    ensures { FirstIn (PlanOf p) p.ops ok result.yes result.starts }
+    ensures { FirstPlan (PlanOf p) p.ops ok result }
 {
     let d = narrow::narrow(p, ok, [true; MOST_OPERATIONS]);
-    let e = eager(p, d);
-    if e.yes {
-        return e;
+    let first = eager(p, d);
+    if first.is_some() {
+        return first;
     }
-    let f = some_plan(p, d);
-    if f.yes {
-        let some = f.starts;
-        let x = from_plan(p, d, some);
-        return First {
-            yes: true,
-            starts: x,
-        };
-    }
-    First {
-        yes: false,
-        starts: [0; MOST_OPERATIONS],
-    }
+    let some = some_plan(p, d)?;
+    Some(from_plan(p, d, some))
 }

@@ -1,16 +1,15 @@
 // Some plan, in stages: a short search, then the questions that ask less and may tell at once that there is none, then
 // the search to its end.
 // The nodes of each, the order of the questions and where they are asked promise nothing: they cost or save time.
-ghost use Rattle.std.specs.Prelude.{◌≡◌, true, false, ℕ, ◌≤◌, ◌<◌};
+ghost use Rattle.std.specs.Prelude.{◌<◌};
 ghost use Rattle.sizes.specs.Sizes.{most_types};
-ghost use Rattle.domain.specs.Domain.{Solved};
 ghost use Rattle.task.specs.Plan.{TaskOk, PlanOf};
-ghost use Rattle.search_steps.specs.Steps.{Emptied};
+ghost use Rattle.search_steps.specs.Steps.{Emptied, Settled};
 
 use crate::anchors::anchors_deny;
 use crate::{search, whole};
 use domain::Domain;
-use search_steps::{Blame, Found, answer, none};
+use search_steps::{Blame, Starts, denies};
 use sizes::{MOST_OPERATIONS, MOST_TYPES};
 use task::Task;
 
@@ -28,48 +27,36 @@ fn coarse_denies(p: Task, d: Domain, m: usize) -> bool
     requires { TaskOk p × (0 < m) }
     ensures { Emptied p d result }
 {
-    if p.interval % m == 0 {
-        let q = relax::coarse(p, m);
-        let f = search(
-            q,
-            d,
-            [true; MOST_OPERATIONS],
-            [1; MOST_OPERATIONS],
-            true,
-            COARSE_NODES,
-        );
-        return none(f.over, f.yes);
+    if p.interval % m != 0 {
+        return false;
     }
-    false
+    let q = relax::coarse(p, m);
+    let f = search(
+        q,
+        d,
+        [true; MOST_OPERATIONS],
+        [1; MOST_OPERATIONS],
+        Some(COARSE_NODES),
+    );
+    denies(f.answer)
 }
 
 // Whether a limited type that stays busy for one slot has few seats free. No promise.
 fn tight_type(p: Task, kind: usize) -> bool
     requires { TaskOk p × (kind < most_types) }
 {
-    if p.instances[kind] == 0 {
+    if p.instances[kind] == 0 || p.busy[kind] != 1 {
         return false;
     }
-    if p.busy[kind] == 1 {
-        let resource = p.resource;
-        let needed = task::count_of(&resource, p.ops, kind);
-        return p.instances[kind] * p.interval < needed + SPARE_SEATS;
-    }
-    false
+    let needed = task::count_of(&p.resource, p.ops, kind);
+    p.instances[kind] * p.interval < needed + SPARE_SEATS
 }
 
 // Whether some type has few seats free. No promise: only then is a question at a coarser interval worth its cost.
 fn tight(p: Task) -> bool
     requires { TaskOk p }
 {
-    let mut kind: usize = 0;
-    while kind < MOST_TYPES {
-        if tight_type(p, kind) {
-            return true;
-        }
-        kind += 1;
-    }
-    false
+    (0..MOST_TYPES).any(|kind| tight_type(p, kind))
 }
 
 // Whether a question that asks less tells that the domain has no plan.
@@ -77,37 +64,29 @@ fn denied(p: Task, d: Domain, blame: Blame) -> bool
     requires { TaskOk p }
     ensures { Emptied p d result }
 {
-    if anchors_deny(p, blame) {
-        return true;
-    }
-    if tight(p) {
-        if coarse_denies(p, d, 2) {
-            return true;
-        }
-        return coarse_denies(p, d, 3);
-    }
-    false
+    anchors_deny(p, blame) || tight(p) && (coarse_denies(p, d, 2) || coarse_denies(p, d, 3))
 }
 
-// Some plan in a narrowed domain, or none. The last search begins with new failure counts. Left free: as in `search`.
-pub fn some_plan(p: Task, d: Domain) -> Found
+// Some plan in a narrowed domain, or none. The last search begins with new failure counts. Left free: which plan it is.
+pub fn some_plan(p: Task, d: Domain) -> Option<Starts>
     requires { TaskOk p }
-    ensures { Solved (PlanOf p) p.ops d result.yes result.starts }
+    ensures { Settled (PlanOf p) p.ops d result }
 {
-    let f = search(
+    let first = search(
         p,
         d,
         [false; MOST_OPERATIONS],
         [1; MOST_OPERATIONS],
-        true,
-        FIRST_NODES,
+        Some(FIRST_NODES),
     );
-    if f.over {
-        let blame = f.blame;
-        if denied(p, d, blame) {
-            return answer(false, [0; MOST_OPERATIONS], blame, 0);
-        }
-        return whole(p, d, [false; MOST_OPERATIONS]);
+    match first.answer {
+        Ok(found) => found,
+        Err(_) => {
+            if denied(p, d, first.blame) {
+                None
+            } else {
+                whole(p, d, [false; MOST_OPERATIONS])
+            }
+        },
     }
-    f
 }

@@ -1,57 +1,26 @@
-// What a search with a budget answers: where it has no node left it is over, and says nothing.
-ghost use Rattle.std.specs.Prelude.{◌≡◌, true, false};
-ghost use Rattle.search_steps.specs.Steps.{None};
+// A search with a budget of nodes, or without one. Where no node is left it is over, and says nothing.
+ghost use Rattle.std.specs.Prelude.{◌≡◌, true, MatchResult, is_some};
+ghost use Rattle.search_steps.specs.Steps.{denied_by};
 
-use crate::{Blame, Found};
-use sizes::MOST_OPERATIONS;
+use crate::{Over, Starts};
 
-// Whether a bounded search has no node left.
-pub fn spent(bounded: bool, left: u32) -> bool
-    ensures { result ≡ true → bounded ≡ true }
+// One node less of a budget; None is no bound.
+pub fn fewer(budget: Option<u32>) -> Result<Option<u32>, Over>
+    ensures { MatchResult result (λ rest. is_some rest ≡ is_some budget) (λ _. is_some budget ≡ true) }
 {
-    if bounded { left == 0 } else { false }
-}
-
-// One node less. No promise: a budget only says when to stop.
-pub fn fewer(left: u32) -> u32 {
-    if 0 < left { left - 1 } else { 0 }
-}
-
-// No answer.
-pub fn no_answer(blame: Blame) -> Found
-    ensures { result.over ≡ true }
-{
-    Found {
-        over: true,
-        yes: false,
-        starts: [0; MOST_OPERATIONS],
-        blame,
-        left: 0,
-    }
-}
-
-// The answer of a search that came to its end with so many nodes left.
-pub fn answer(yes: bool, starts: [usize; MOST_OPERATIONS], blame: Blame, left: u32) -> Found
-    ensures { (result.over ≡ false) × (result.yes ≡ yes) × (result.starts ≡ starts) }
-{
-    Found {
-        over: false,
-        yes,
-        starts,
-        blame,
-        left,
+    match budget {
+        Some(0) => Err(Over),
+        Some(left) => Ok(Some(left - 1)),
+        None => Ok(None),
     }
 }
 
 // Whether a search came to its end and found none.
-pub fn none(over: bool, yes: bool) -> bool
-    ensures { None over yes result }
+pub fn denies(answer: Result<Option<Starts>, Over>) -> bool
+    ensures { result ≡ denied_by answer }
 {
-    if over {
-        return false;
+    match answer {
+        Ok(found) => found.is_none(),
+        Err(_) => false,
     }
-    if yes {
-        return false;
-    }
-    true
 }

@@ -10,30 +10,28 @@ mod choice;
 mod descent;
 mod view;
 
-pub use budget::{answer, fewer, no_answer, none, spent};
+pub use budget::{denies, fewer};
 pub use choice::{blamed, single};
 pub use descent::eager;
-pub use view::look;
+pub use view::{View, look};
 
 // Which operations are marked.
 pub type Marks = [bool; MOST_OPERATIONS];
 
+// A start for each operation.
+pub type Starts = [usize; MOST_OPERATIONS];
+
 // How often each operation was found at fault: it only guides the choice.
 pub type Blame = [u32; MOST_OPERATIONS];
 
-// What a search answers: that it is over and says nothing, or whether there is a plan, and one.
+// The search is over: it had no node left, and says nothing.
+#[derive(Clone, Copy)]
+pub struct Over;
+
+// What a search answers, a plan or that there is none, unless it is over; and the nodes that it left of a budget.
 #[derive(Clone, Copy)]
 pub struct Found {
-    pub over: bool,
-    pub yes: bool,
-    pub starts: [usize; MOST_OPERATIONS],
+    pub answer: Result<Option<Starts>, Over>,
     pub blame: Blame,
-    pub left: u32,
-}
-
-#[repr(C)]
-#[derive(Clone, Copy)]
-pub struct First {
-    pub yes: bool,
-    pub starts: [usize; MOST_OPERATIONS],
+    pub left: Option<u32>,
 }

@@ -1,117 +1,86 @@
 // One look at a narrowed domain: the answer where its least starts give one, or an operation to split.
-ghost use Rattle.std.specs.Prelude.{◌≡◌, true, false, ℕ, ◌+◌, ◌≤◌, ◌<◌};
+ghost use Rattle.std.specs.Prelude.{◌≤◌};
 ghost use Rattle.sizes.specs.Sizes.{most_operations};
 ghost use Rattle.domain.specs.Split.{LeastStarts};
 ghost use Rattle.task.specs.Plan.{TaskOk, PlanOf};
-ghost use Rattle.search_steps.specs.Steps.{Bare, Loose, Looked};
+ghost use Rattle.search_steps.specs.Steps.{Started, Loose, Looked};
 
-use crate::Blame;
 use crate::choice::choose;
+use crate::{Blame, Starts};
 use domain::Domain;
 use sizes::{MOST_OPERATIONS, MOST_STARTS};
 use task::Task;
 
+// A plan in the domain, or none; or an operation to split into its classes by a modulus.
 #[derive(Clone, Copy)]
-pub struct View {
-    pub done: bool,
-    pub yes: bool,
-    pub starts: [usize; MOST_OPERATIONS],
-    pub op: usize,
-    pub modulus: usize,
+pub enum View {
+    Answered(Option<Starts>),
+    Split { op: usize, modulus: usize },
 }
 
 // The least start of each operation.
-pub fn least_starts(d: Domain, ops: usize) -> [usize; MOST_OPERATIONS]
+pub fn least_starts(d: Domain, ops: usize) -> Starts
     requires { ops ≤ most_operations }
     ensures { LeastStarts ops d result }
 {
-    let mut x = [0usize; MOST_OPERATIONS];
-    let mut i: usize = 0;
-    while i < ops {
+    let mut x = [0; MOST_OPERATIONS];
+    for i in 0..ops {
         x[i] = domain::least(d[i]);
-        i += 1;
     }
     x
 }
 
-// The first operation with no start, or ops.
-pub fn first_bare(x: [usize; MOST_OPERATIONS], ops: usize) -> usize
+// Whether each operation has a start.
+pub fn started(x: Starts, ops: usize) -> bool
     requires { ops ≤ most_operations }
-    ensures { Bare ops x result }
+    ensures { Started ops x result }
 {
-    let mut i: usize = 0;
-    while i < ops {
+    for i in 0..ops {
         if MOST_STARTS <= x[i] {
-            return i;
+            return false;
         }
-        i += 1;
     }
-    i
+    true
 }
 
-// The first operation with two starts, or ops.
-fn first_loose(d: Domain, x: [usize; MOST_OPERATIONS], ops: usize) -> usize
+// The first operation with two starts.
+fn first_loose(d: Domain, x: Starts, ops: usize) -> Option<usize>
     requires { ops ≤ most_operations }
     ensures { Loose ops d x result }
 {
-    let mut i: usize = 0;
-    while i < ops {
+    for i in 0..ops {
         if domain::other_class(d[i], x[i], MOST_STARTS) {
-            return i;
+            return Some(i);
         }
-        i += 1;
     }
-    i
-}
-
-fn answer(yes: bool, starts: [usize; MOST_OPERATIONS]) -> View
-    ensures { (result.done ≡ true) × (result.yes ≡ yes) × (result.starts ≡ starts) }
-{
-    View {
-        done: true,
-        yes,
-        starts,
-        op: 0,
-        modulus: 1,
-    }
-}
-
-fn split(starts: [usize; MOST_OPERATIONS], op: usize, modulus: usize) -> View
-    ensures { (result.done ≡ false) × (result.op ≡ op) × (result.modulus ≡ modulus) }
-{
-    View {
-        done: false,
-        yes: false,
-        starts,
-        op,
-        modulus,
-    }
+    None
 }
 
 // An answer for a narrowed domain, or an operation to split.
 pub fn look(p: Task, d: Domain, blame: Blame) -> View
     requires { TaskOk p }
-    ensures { Looked (PlanOf p) p.ops d result.done result.yes result.starts result.op result.modulus }
+    ensures { Looked (PlanOf p) p.ops d result }
 {
-    let ops = p.ops;
-    let interval = p.interval;
-    let x = least_starts(d, ops);
-    let b = first_bare(x, ops);
-    if b < ops {
-        return answer(false, x);
+    let x = least_starts(d, p.ops);
+    if !started(x, p.ops) {
+        return View::Answered(None);
     }
     if task::is_plan(p, x) {
-        return answer(true, x);
+        return View::Answered(Some(x));
     }
-    let i = choose(d, ops, interval, blame);
-    if i < ops {
-        if domain::other_class(d[i], x[i], interval) {
-            return split(x, i, interval);
+    if let Some(op) = choose(d, p.ops, p.interval, blame) {
+        if domain::other_class(d[op], x[op], p.interval) {
+            return View::Split {
+                op,
+                modulus: p.interval,
+            };
         }
     }
-    let j = first_loose(d, x, ops);
-    if j < ops {
-        return split(x, j, MOST_STARTS);
+    match first_loose(d, x, p.ops) {
+        Some(op) => View::Split {
+            op,
+            modulus: MOST_STARTS,
+        },
+        None => View::Answered(None),
     }
-    answer(false, x)
 }
