@@ -25,9 +25,8 @@ fn plan(sheet: Sheet, interval: usize, out: &mut [u8]) -> Written
     requires { InRange sheet }
     ensures { Put (Serves sheet (Command.Plan interval)) out.old result out.new }
 {
-    let refusal = questions::asked(sheet, interval);
-    if refusal != 0 {
-        return lines::put(out, command_lines::alone(refusal));
+    if let Err(refusal) = questions::asked(sheet, interval) {
+        return lines::put(out, command_lines::alone(refusal.number()));
     }
     report::interval_text(sheet, interval, out)
 }

@@ -72,7 +72,7 @@ fn some_interval(sheet: Sheet, interval: usize) -> usize
     requires { InRange sheet }
     ensures { SomeInterval sheet interval result }
 {
-    if questions::asked(sheet, interval) != 0 {
+    if questions::asked(sheet, interval).is_err() {
         return 1;
     }
     interval
@@ -89,7 +89,7 @@ fn plan_examined(sheet: Sheet, plan: PlanLines) -> Examined
         return unreadable(FIRST_AT + lesser(count, ops));
     }
     let interval = plan.interval;
-    if questions::asked(sheet, interval) != 0 {
+    if questions::asked(sheet, interval).is_err() {
         return Examined {
             answer: NO_INTERVAL,
             line: INTERVAL_LINE,
@@ -120,7 +120,7 @@ fn tree_examined(sheet: Sheet, text: &[u8], at: usize, interval: usize) -> Exami
     if tree.next < text.len() {
         return unreadable(tree.line);
     }
-    if questions::asked(sheet, interval) != 0 {
+    if questions::asked(sheet, interval).is_err() {
         return Examined {
             answer: NO_INTERVAL,
             line: INTERVAL_LINE,
@@ -170,9 +170,8 @@ fn text_examined(sheet: Sheet, text: &[u8]) -> Examined
 pub fn judge(sheet: Sheet, text: &[u8]) -> usize
     ensures { JudgedAt sheet text.now result }
 {
-    let refusal = questions::answer(sheet);
-    if refusal != 0 {
-        return refusal;
+    if let Err(refusal) = questions::answer(sheet) {
+        return refusal.number();
     }
     let examined = text_examined(sheet, text);
     examined.answer
@@ -182,8 +181,7 @@ pub fn judge(sheet: Sheet, text: &[u8]) -> usize
 pub fn line_at_fault(sheet: Sheet, text: &[u8]) -> usize
     ensures { FaultAt sheet text.now result }
 {
-    let refusal = questions::answer(sheet);
-    if refusal != 0 {
+    if questions::answer(sheet).is_err() {
         return 0;
     }
     let examined = text_examined(sheet, text);

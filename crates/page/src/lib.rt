@@ -52,9 +52,8 @@ pub fn page(
 ) -> Written
     ensures { PageAt sheet interval starts.now instances.now out.old (record { written = result; buffer = out.new }) }
 {
-    let refusal = questions::asked(sheet, interval);
-    if refusal != 0 {
-        return refuse(refusal);
+    if let Err(refusal) = questions::asked(sheet, interval) {
+        return refuse(refusal.number());
     }
     if out.len() < page_writer::page_length(sheet, interval) {
         return refuse(9);

@@ -6,11 +6,13 @@
 ghost use Rattle.std.specs.Prelude.{◌<◌, ◌≡◌};
 ghost use Rattle.sizes.specs.Sizes.{most_operations};
 ghost use Rattle.laws.specs.Says.{Says};
+ghost use Rattle.refusal.specs.Number.{answer_of};
 ghost use Rattle.placing_table.specs.Table.{Target};
 ghost use Rattle.placing.specs.Answers.{NewAt, AskedToPlace, refused, PlaceAt, no_offer, OfferAt, BookAt, whole};
 ghost use Rattle.placing.specs.Change.{changed};
 
 use placing_table::{NOTHING, Placement, Table};
+use refusal::Refusal;
 use sheet::Sheet;
 use sizes::MOST_OPERATIONS;
 
@@ -53,10 +55,13 @@ pub fn new_table(sheet: Sheet, interval: usize) -> NewTable
     let table = Table {
         entries: [NOTHING; MOST_OPERATIONS],
     };
-    NewTable {
-        answer: questions::asked(sheet, interval),
-        table,
+    if let Err(refusal) = questions::asked(sheet, interval) {
+        return NewTable {
+            answer: refusal.number(),
+            table,
+        };
     }
+    NewTable { answer: 0, table }
 }
 
 // ---- what is asked first
@@ -68,25 +73,28 @@ fn target_in_range(sheet: Sheet, op: usize, start: usize) -> bool
     op < sheet.op_count && start < sheet.horizon
 }
 
-// The questions before a placing, which an offer and a booking ask first: 0, or the number of the refusal.
-fn asked(sheet: Sheet, interval: usize, table: Table, op: usize, start: usize) -> usize
-    ensures { AskedToPlace sheet interval table op start result }
+// The questions before a placing, which an offer and a booking ask first.
+fn asked(
+    sheet: Sheet,
+    interval: usize,
+    table: Table,
+    op: usize,
+    start: usize,
+) -> Result<(), Refusal>
+    ensures { AskedToPlace sheet interval table op start (answer_of result) }
 {
-    let refusal = questions::asked(sheet, interval);
-    if refusal != 0 {
-        return refusal;
-    }
+    questions::asked(sheet, interval)?;
     if !placing_table::consistent(sheet, interval, table) {
-        return 10;
+        return Err(Refusal::ContradictoryTable);
     }
     if !target_in_range(sheet, op, start) {
-        return 11;
+        return Err(Refusal::PlaceOutOfRange);
     }
     let p = table.entries[op];
     if p.placed {
-        return 12;
+        return Err(Refusal::AlreadyPlaced);
     }
-    0
+    Ok(())
 }
 
 // The answer with a refusal: the table holds what it held.
@@ -128,9 +136,8 @@ pub fn make_offer(
 ) -> OfferAnswer
     ensures { OfferAt sheet interval table op start result }
 {
-    let refusal = asked(sheet, interval, table, op, start);
-    if refusal != 0 {
-        return refuse_offer(refusal);
+    if let Err(refusal) = asked(sheet, interval, table, op, start) {
+        return refuse_offer(refusal.number());
     }
     match placing_table::lowest_free(sheet, interval, table, op, start) {
         None => refuse_offer(13),
@@ -153,9 +160,8 @@ pub fn book(sheet: Sheet, interval: usize, table: Table, offer: Offer) -> PlaceA
     let op = offer.operation;
     let start = offer.start;
     let instance = offer.instance;
-    let refusal = asked(sheet, interval, table, op, start);
-    if refusal != 0 {
-        return refuse(refusal, table);
+    if let Err(refusal) = asked(sheet, interval, table, op, start) {
+        return refuse(refusal.number(), table);
     }
     if !placing_table::is_free(sheet, interval, table, op, start, instance) {
         return refuse(17, table);

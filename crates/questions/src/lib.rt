@@ -3,127 +3,78 @@
 // check's time.
 #![tactic(auto)]
 
-ghost use Rattle.std.specs.Prelude.{◌≡◌, ◌≤◌, get_or};
-ghost use Rattle.sizes.specs.Sizes.{most_operations, most_types, most_edges};
+ghost use Rattle.std.specs.Prelude.{◌≡◌, ℕ, length};
 ghost use Rattle.laws.specs.Says.{Says};
-ghost use Rattle.dependence.specs.Graph.{no_edge};
-ghost use Rattle.sheet.specs.Answer.{first_of, type_answer, op_answer, edge_answer, types_answer, ops_answer, edges_answer, sheet_answer};
+ghost use Rattle.refusal.specs.Number.{answer_of};
+ghost use Rattle.questions.specs.Lines.{Answered};
+ghost use Rattle.sheet.specs.Answer.{first_of, types_answer, ops_answer, edges_answer, sheet_answer};
 ghost use Rattle.sheet.specs.Questions.{AskedAt};
-ghost use Rattle.sheet.specs.Sheet.{no_type, no_operation, Interval};
+ghost use Rattle.sheet.specs.Sheet.{Interval};
 
-use dependence::Edge;
-use sheet::{
-    CAP, EDGES, HORIZON, OPERATIONS, Operation, ResourceType, Sheet, TYPES, edge_answer,
-    number_answer, op_answer, type_answer,
-};
-use sizes::{MOST_EDGES, MOST_OPERATIONS, MOST_TYPES};
+use refusal::Refusal;
+use sheet::{Field, Sheet, edge_answer, number_answer, op_answer, type_answer};
 
 // ---- the lines of a sheet in their order
 
-// What the lines of the first count types answer.
-fn type_lines(types: [ResourceType; MOST_TYPES], count: usize) -> usize
-    requires { count ≤ most_types }
-    ensures { result ≡ first_of count (λ k. type_answer (get_or types k no_type)) }
+// What lines answer, the first one that refuses for all.
+fn first_refusal<T: Copy, F: Fn(T) -> Result<(), Refusal>>(
+    lines: &[T],
+    answer: F,
+) -> Result<(), Refusal>
+    requires { F.IsAlwaysCallable answer }
+    ensures { (f : ℕ → ℕ) → Answered (F.post answer) lines.now f → answer_of result ≡ first_of (length lines.now) f }
 {
-    let mut k: usize = 0;
-    while k < count {
-        let answer = type_answer(types[k]);
-        if answer != 0 {
-            return answer;
-        }
-        k += 1;
+    for line in lines {
+        answer(*line)?;
     }
-    0
+    Ok(())
 }
 
 // What the line with the count of types and their lines answer.
-fn types_answer(sheet: Sheet) -> usize
-    ensures { result ≡ types_answer sheet }
+#[tactic(auto, using(sheet::specs::Facts::accepted_most, std::proofs::lemmas::Grind::common_steps))]
+fn types_answer(sheet: Sheet) -> Result<(), Refusal>
+    ensures { answer_of result ≡ types_answer sheet }
 {
-    let count = number_answer(TYPES, sheet.type_count);
-    if count != 0 {
-        return count;
-    }
+    number_answer(Field::Types, sheet.type_count)?;
     let types = sheet.types;
-    type_lines(types, sheet.type_count)
-}
-
-// What the lines of the first count operations answer.
-fn op_lines(ops: [Operation; MOST_OPERATIONS], count: usize, types: usize, horizon: usize) -> usize
-    requires { count ≤ most_operations }
-    ensures { result ≡ first_of count (λ k. op_answer types horizon (get_or ops k no_operation)) }
-{
-    let mut k: usize = 0;
-    while k < count {
-        let answer = op_answer(types, horizon, ops[k]);
-        if answer != 0 {
-            return answer;
-        }
-        k += 1;
-    }
-    0
+    first_refusal(&types[..sheet.type_count], |resource| type_answer(resource))
 }
 
 // What the line with the count of operations and their lines answer.
-fn ops_answer(sheet: Sheet) -> usize
-    ensures { result ≡ ops_answer sheet }
+#[tactic(auto, using(sheet::specs::Facts::accepted_most, std::proofs::lemmas::Grind::common_steps))]
+fn ops_answer(sheet: Sheet) -> Result<(), Refusal>
+    ensures { answer_of result ≡ ops_answer sheet }
 {
-    let count = number_answer(OPERATIONS, sheet.op_count);
-    if count != 0 {
-        return count;
-    }
+    number_answer(Field::Operations, sheet.op_count)?;
     let ops = sheet.ops;
-    op_lines(ops, sheet.op_count, sheet.type_count, sheet.horizon)
-}
-
-// What the lines of the first count edges answer.
-fn edge_lines(edges: [Edge; MOST_EDGES], count: usize, ops: usize) -> usize
-    requires { count ≤ most_edges }
-    ensures { result ≡ first_of count (λ k. edge_answer ops (get_or edges k no_edge)) }
-{
-    let mut k: usize = 0;
-    while k < count {
-        let answer = edge_answer(ops, edges[k]);
-        if answer != 0 {
-            return answer;
-        }
-        k += 1;
-    }
-    0
+    first_refusal(
+        &ops[..sheet.op_count],
+        |op| op_answer(sheet.type_count, sheet.horizon, op),
+    )
 }
 
 // What the line with the count of edges and their lines answer.
-fn edges_answer(sheet: Sheet) -> usize
-    ensures { result ≡ edges_answer sheet }
+#[tactic(auto, using(sheet::specs::Facts::accepted_most, std::proofs::lemmas::Grind::common_steps))]
+fn edges_answer(sheet: Sheet) -> Result<(), Refusal>
+    ensures { answer_of result ≡ edges_answer sheet }
 {
-    let count = number_answer(EDGES, sheet.edge_count);
-    if count != 0 {
-        return count;
-    }
+    number_answer(Field::Edges, sheet.edge_count)?;
     let edges = sheet.edges;
-    edge_lines(edges, sheet.edge_count, sheet.op_count)
+    first_refusal(
+        &edges[..sheet.edge_count],
+        |edge| edge_answer(sheet.op_count, edge),
+    )
 }
 
-// What the sheet answers: 0, or the number of the first line that refuses.
-pub fn answer(sheet: Sheet) -> usize
-    ensures { result ≡ sheet_answer sheet }
+// What the sheet answers: the refusal of the first line that refuses.
+#[tactic(auto, unfolding(sheet::specs::Answer::sheet_answer))]
+pub fn answer(sheet: Sheet) -> Result<(), Refusal>
+    ensures { answer_of result ≡ sheet_answer sheet }
 {
-    let horizon = number_answer(HORIZON, sheet.horizon);
-    if horizon != 0 {
-        return horizon;
-    }
-    let cap = number_answer(CAP, sheet.cap);
-    if cap != 0 {
-        return cap;
-    }
-    let types = types_answer(sheet);
-    if types != 0 {
-        return types;
-    }
-    let ops = ops_answer(sheet);
-    if ops != 0 {
-        return ops;
-    }
+    number_answer(Field::Horizon, sheet.horizon)?;
+    number_answer(Field::Cap, sheet.cap)?;
+    types_answer(sheet)?;
+    ops_answer(sheet)?;
     edges_answer(sheet)
 }
 
@@ -133,22 +84,16 @@ pub fn answer(sheet: Sheet) -> usize
 fn interval_in_range(sheet: Sheet, interval: usize) -> bool
     ensures { Says (Interval sheet interval) result }
 {
-    if interval < 1 {
-        return false;
-    }
-    interval <= sheet.cap
+    1 <= interval && interval <= sheet.cap
 }
 
-// The sheet's questions and 4, which every service at an interval asks first: 0, or the number of the refusal.
-pub fn asked(sheet: Sheet, interval: usize) -> usize
-    ensures { AskedAt sheet interval result }
+// The sheet's questions and 4, which every service at an interval asks first.
+pub fn asked(sheet: Sheet, interval: usize) -> Result<(), Refusal>
+    ensures { AskedAt sheet interval (answer_of result) }
 {
-    let refusal = answer(sheet);
-    if refusal != 0 {
-        return refusal;
-    }
+    answer(sheet)?;
     if !interval_in_range(sheet, interval) {
-        return 4;
+        return Err(Refusal::IntervalOutOfRange);
     }
-    0
+    Ok(())
 }

@@ -7,7 +7,7 @@ ghost use Rattle.reader.specs.Fault.{fault_of, line_number};
 ghost use Rattle.reader.specs.Read.{read_of};
 ghost use Rattle.reader.specs.Whole.{WholeRead, as_read, refused_at};
 
-use sheet::{CAP, HORIZON, NO_EDGE, NO_OPERATION, NO_TYPE, Sheet};
+use sheet::{Field, NO_EDGE, NO_OPERATION, NO_TYPE, Sheet};
 use sheet_lines::{MALFORMED, read_number};
 use sheet_sections::{EdgesRead, OpsRead, TypesRead, read_edges, read_ops, read_types};
 use sizes::{MOST_EDGES, MOST_OPERATIONS, MOST_TYPES};
@@ -86,11 +86,11 @@ fn read_whole(bytes: &[u8]) -> SheetRead
     if LONGEST_SHEET < bytes.len() {
         return refuse(TOO_LONG, LONGEST_SHEET);
     }
-    let horizon = read_number(bytes, 0, b"horizon=", HORIZON);
+    let horizon = read_number(bytes, 0, b"horizon=", Field::Horizon);
     if horizon.answer != 0 {
         return refuse(horizon.answer, horizon.next);
     }
-    let cap = read_number(bytes, horizon.next, b"cap=", CAP);
+    let cap = read_number(bytes, horizon.next, b"cap=", Field::Cap);
     if cap.answer != 0 {
         return refuse(cap.answer, cap.next);
     }

@@ -60,10 +60,9 @@ pub fn plan_text(sheet: Sheet, interval: usize, out: &mut [u8]) -> PlanWritten
 pub fn interval_text(sheet: Sheet, interval: usize, out: &mut [u8]) -> Written
     ensures { IntervalText sheet interval out.old result out.new }
 {
-    let refusal = questions::asked(sheet, interval);
-    if refusal != 0 {
+    if let Err(refusal) = questions::asked(sheet, interval) {
         return Written {
-            answer: refusal,
+            answer: refusal.number(),
             count: 0,
         };
     }

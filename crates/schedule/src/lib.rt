@@ -57,9 +57,8 @@ fn first_plan(sheet: Sheet, graph: Graph, interval: usize) -> PlanAnswer
 pub fn plan_at(sheet: Sheet, interval: usize) -> PlanAnswer
     ensures { PlanAt sheet interval result }
 {
-    let asked = questions::asked(sheet, interval);
-    if asked != 0 {
-        return refusal(asked);
+    if let Err(reason) = questions::asked(sheet, interval) {
+        return refusal(reason.number());
     }
     let graph = sheet_graph::graph_of(sheet);
     let walk = constraints::bad_walk(graph, interval);
@@ -84,10 +83,9 @@ pub fn plan_at(sheet: Sheet, interval: usize) -> PlanAnswer
 pub fn least_interval(sheet: Sheet) -> IntervalAnswer
     ensures { LeastInterval sheet result }
 {
-    let asked = questions::answer(sheet);
-    if asked != 0 {
+    if let Err(reason) = questions::answer(sheet) {
         return IntervalAnswer {
-            answer: asked,
+            answer: reason.number(),
             interval: 0,
         };
     }
@@ -95,7 +93,8 @@ pub fn least_interval(sheet: Sheet) -> IntervalAnswer
     let mut interval: usize = 1;
     while interval <= cap {
         let plan = plan_at(sheet, interval);
-        if plan.answer == 0 {
+        let found = plan.answer == 0;
+        if found {
             return IntervalAnswer {
                 answer: 0,
                 interval,

@@ -4,13 +4,14 @@
 #![tactic(auto)]
 
 ghost use Rattle.std.specs.Prelude.{◌≤◌, drop, length};
+ghost use Rattle.sheet.specs.Ranges.{row_of};
 ghost use Rattle.sheet_lines.specs.Found.{line_from};
 ghost use Rattle.sheet_lines.specs.Kinds.{number_kind, type_kind, op_kind, edge_kind};
 ghost use Rattle.sheet_lines.specs.Seen.{Reads};
 
 use dependence::Edge;
 use scan::NO_MINUS;
-use sheet::{NO_EDGE, NO_OPERATION, NO_TYPE, Operation, ResourceType};
+use sheet::{Field, NO_EDGE, NO_OPERATION, NO_TYPE, Operation, ResourceType};
 
 // The answer to question 2.
 pub const MALFORMED: usize = 2;
@@ -26,9 +27,9 @@ pub struct NumberRead {
 }
 
 // The line with this key and one number, in the range of a field.
-pub fn read_number(s: &[u8], at: usize, key: &[u8], field: usize) -> NumberRead
+pub fn read_number(s: &[u8], at: usize, key: &[u8], field: Field) -> NumberRead
     requires { at ≤ length s.now }
-    ensures { Reads s.now result.answer result.value result.next (line_from (number_kind key.now field) (drop at s.now)) }
+    ensures { Reads s.now result.answer result.value result.next (line_from (number_kind key.now (row_of field)) (drop at s.now)) }
 {
     let Some(line) = scan::read_line(s, at, key, 1, NO_MINUS) else {
         return NumberRead {
@@ -39,10 +40,9 @@ pub fn read_number(s: &[u8], at: usize, key: &[u8], field: usize) -> NumberRead
     };
     let values = line.values;
     let value = values[0] as usize;
-    let answer = sheet::number_answer(field, value);
-    if answer != 0 {
+    if let Err(refusal) = sheet::number_answer(field, value) {
         return NumberRead {
-            answer,
+            answer: refusal.number(),
             value: 0,
             next: at,
         };
@@ -82,10 +82,9 @@ pub fn read_type(s: &[u8], at: usize) -> TypeRead
         latency,
         busy,
     };
-    let answer = sheet::type_answer(entry);
-    if answer != 0 {
+    if let Err(refusal) = sheet::type_answer(entry) {
         return TypeRead {
-            answer,
+            answer: refusal.number(),
             entry: NO_TYPE,
             next: at,
         };
@@ -121,10 +120,9 @@ pub fn read_op(s: &[u8], at: usize, types: usize, horizon: usize) -> OpRead
     let lo = values[1] as usize;
     let hi = values[2] as usize;
     let entry = Operation { resource, lo, hi };
-    let answer = sheet::op_answer(types, horizon, entry);
-    if answer != 0 {
+    if let Err(refusal) = sheet::op_answer(types, horizon, entry) {
         return OpRead {
-            answer,
+            answer: refusal.number(),
             entry: NO_OPERATION,
             next: at,
         };
@@ -162,10 +160,9 @@ pub fn read_edge(s: &[u8], at: usize, ops: usize) -> EdgeRead
         delay: values[2],
         distance: values[3] as usize,
     };
-    let answer = sheet::edge_answer(ops, entry);
-    if answer != 0 {
+    if let Err(refusal) = sheet::edge_answer(ops, entry) {
         return EdgeRead {
-            answer,
+            answer: refusal.number(),
             entry: NO_EDGE,
             next: at,
         };

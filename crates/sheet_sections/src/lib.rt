@@ -11,7 +11,7 @@ ghost use Rattle.sheet_lines.specs.Kinds.{edge_kind, edges_kind, op_kind, ops_ki
 ghost use Rattle.sheet_lines.specs.Seen.{Entries, Refuses};
 
 use dependence::Edge;
-use sheet::{EDGES, NO_EDGE, NO_OPERATION, NO_TYPE, OPERATIONS, Operation, ResourceType, TYPES};
+use sheet::{Field, NO_EDGE, NO_OPERATION, NO_TYPE, Operation, ResourceType};
 use sheet_lines::{read_edge, read_number, read_op, read_type};
 use sizes::{MOST_EDGES, MOST_OPERATIONS, MOST_TYPES};
 
@@ -65,7 +65,7 @@ pub fn read_types(s: &[u8], at: usize) -> TypesRead
     requires { at ≤ length s.now }
     ensures { Entries most_types no_type s.now result.answer result.count result.entries result.next (section_from types_kind type_kind (drop at s.now)) }
 {
-    let count = read_number(s, at, b"types=", TYPES);
+    let count = read_number(s, at, b"types=", Field::Types);
     if count.answer != 0 {
         return no_types(count.answer, count.next);
     }
@@ -122,7 +122,7 @@ pub fn read_ops(s: &[u8], at: usize, types: usize, horizon: usize) -> OpsRead
     requires { at ≤ length s.now }
     ensures { Entries most_operations no_operation s.now result.answer result.count result.entries result.next (section_from ops_kind (op_kind types horizon) (drop at s.now)) }
 {
-    let count = read_number(s, at, b"ops=", OPERATIONS);
+    let count = read_number(s, at, b"ops=", Field::Operations);
     if count.answer != 0 {
         return no_ops(count.answer, count.next);
     }
@@ -179,7 +179,7 @@ pub fn read_edges(s: &[u8], at: usize, ops: usize) -> EdgesRead
     requires { at ≤ length s.now }
     ensures { Entries most_edges no_edge s.now result.answer result.count result.entries result.next (section_from edges_kind (edge_kind ops) (drop at s.now)) }
 {
-    let count = read_number(s, at, b"edges=", EDGES);
+    let count = read_number(s, at, b"edges=", Field::Edges);
     if count.answer != 0 {
         return no_edges(count.answer, count.next);
     }

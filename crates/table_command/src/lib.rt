@@ -46,9 +46,8 @@ pub fn answer(bytes: &[u8], interval: usize, script: &[u8], out: &mut [u8]) -> W
         return put_refusal(out, refusal);
     }
     let sheet = read.sheet;
-    let no_interval = questions::asked(sheet, interval);
-    if no_interval != 0 {
-        return put_refusal(out, no_interval);
+    if let Err(no_interval) = questions::asked(sheet, interval) {
+        return put_refusal(out, no_interval.number());
     }
     let mut text = [0u8; ROOM];
     let count = listing::put_table(&mut text, sheet, interval, script);

@@ -36,9 +36,8 @@ fn starts_refused(answer: usize) -> Starts
 pub fn bad_walk(sheet: Sheet, interval: usize) -> BadWalk
     ensures { WalkAt sheet interval result }
 {
-    let refusal = questions::asked(sheet, interval);
-    if refusal != 0 {
-        return without_loop(refusal);
+    if let Err(refusal) = questions::asked(sheet, interval) {
+        return without_loop(refusal.number());
     }
     constraints::bad_walk(sheet_graph::graph_of(sheet), interval)
 }
@@ -61,9 +60,8 @@ fn window_starts(ops: [Operation; MOST_OPERATIONS]) -> [usize; MOST_OPERATIONS]
 pub fn earliest_starts(sheet: Sheet, interval: usize) -> Starts
     ensures { StartsAt sheet interval result }
 {
-    let refusal = questions::asked(sheet, interval);
-    if refusal != 0 {
-        return starts_refused(refusal);
+    if let Err(refusal) = questions::asked(sheet, interval) {
+        return starts_refused(refusal.number());
     }
     let ops = sheet.ops;
     constraints::earliest(sheet_graph::graph_of(sheet), interval, window_starts(ops))
@@ -74,7 +72,7 @@ pub fn earliest_starts(sheet: Sheet, interval: usize) -> Starts
 pub fn separations(sheet: Sheet, interval: usize) -> [[i32; MOST_OPERATIONS]; MOST_OPERATIONS]
     ensures { SeparationsAt sheet interval result }
 {
-    if questions::asked(sheet, interval) != 0 {
+    if questions::asked(sheet, interval).is_err() {
         return [[0; MOST_OPERATIONS]; MOST_OPERATIONS];
     }
     constraints::separations(sheet_graph::graph_of(sheet), interval)
@@ -85,10 +83,9 @@ pub fn separations(sheet: Sheet, interval: usize) -> [[i32; MOST_OPERATIONS]; MO
 pub fn recurrence_bound(sheet: Sheet) -> Bound
     ensures { RecurrenceAt sheet result }
 {
-    let refusal = questions::answer(sheet);
-    if refusal != 0 {
+    if let Err(refusal) = questions::answer(sheet) {
         return Bound {
-            answer: refusal,
+            answer: refusal.number(),
             value: 0,
         };
     }

@@ -50,10 +50,9 @@ pub fn is_plan(
 ) -> Checked
     ensures { CheckedAt sheet interval (vec starts) (vec instances) result }
 {
-    let refusal = questions::asked(sheet, interval);
-    if refusal != 0 {
+    if let Err(refusal) = questions::asked(sheet, interval) {
         return Checked {
-            answer: refusal,
+            answer: refusal.number(),
             plan: false,
         };
     }

@@ -109,10 +109,9 @@ fn put_text(s: Sheet, out: &mut [u8]) -> Written
 pub fn write(s: Sheet, out: &mut [u8]) -> Written
     ensures { Wrote s out.old result out.new }
 {
-    let refusal = questions::answer(s);
-    if refusal != 0 {
+    if let Err(refusal) = questions::answer(s) {
         return Written {
-            answer: refusal,
+            answer: refusal.number(),
             count: 0,
         };
     }

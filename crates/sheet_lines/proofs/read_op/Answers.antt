@@ -1,9 +1,10 @@
 -- The line, and what its entry answers, pick the case of `line_from`.
-use Rattle.std.proofs.Common.{◌≡◌, ap, arith, nat_abs, take, get_or, pos, to_z, of_z}
+use Rattle.std.proofs.Common.{◌≡◌, ap, arith, nat_abs, take, get_or, pos, to_z, of_z, sym, refl, ◌∙◌}
 use Rattle.std.specs.Int.{w32}
 use Rattle.scan.specs.Values.{bits}
 use Rattle.scan.specs.declared.Line.{Line}
 use Rattle.scan.specs.Line.{LineFits}
+use Rattle.refusal.specs.Number.{no_zero}
 use Rattle.sheet_lines.specs.Kinds.{op_kind}
 use Rattle.sheet_lines.specs.Steps.{malformed, value_at_lem, cast_at, refuses, entry}
 use Rattle.sheet.specs.Sheet.{no_operation}
@@ -21,14 +22,14 @@ overflow_cast-lo c = let r = c.in-Some.ensures in cast_at (op_kind c.args.types 
 pub overflow_cast-hi : goal.overflow_cast-hi
 overflow_cast-hi c = let r = c.in-Some.ensures in cast_at (op_kind c.args.types c.args.horizon) _ c.args.at c.in-Some.line r.result_value r.line_fits 2 (λ z. absurd (omega arith))
 
-pub returns-then-answer-ne0 : goal.returns-then-answer-ne0
-returns-then-answer-ne0 c =
+pub returns-in-Err : goal.returns-in-Err
+returns-in-Err c =
     let r = c.in-Some.ensures in
     let at = value_at_lem (op_kind c.args.types c.args.horizon) _ c.args.at c.in-Some.line r.result_value r.line_fits in
-    refuses (op_kind c.args.types c.args.horizon) _ c.args.at c.in-Some.line r.result_value r.line_fits _ (λ j. record { resource = nat_abs (at 0 (omega arith) j); lo = nat_abs (at 1 (omega arith) j); hi = nat_abs (at 2 (omega arith) j) }) c.requires no_operation c.op_answer-answer.ensures c.if-answer-ne0.true
+    refuses (op_kind c.args.types c.args.horizon) _ c.args.at c.in-Some.line r.result_value r.line_fits _ (λ j. record { resource = nat_abs (at 0 (omega arith) j); lo = nat_abs (at 1 (omega arith) j); hi = nat_abs (at 2 (omega arith) j) }) c.requires no_operation (c.number.ensures ∙ c.in-Err.ensures) (λ z. no_zero _ (sym c.number.ensures ∙ z))
 
 pub returns : goal.returns
 returns c =
     let r = c.in-Some.ensures in
     let at = value_at_lem (op_kind c.args.types c.args.horizon) _ c.args.at c.in-Some.line r.result_value r.line_fits in
-    entry (op_kind c.args.types c.args.horizon) _ c.args.at c.in-Some.line r.result_value r.line_fits _ (λ j. record { resource = nat_abs (at 0 (omega arith) j); lo = nat_abs (at 1 (omega arith) j); hi = nat_abs (at 2 (omega arith) j) }) c.op_answer-answer.ensures c.if-answer-ne0.false
+    entry (op_kind c.args.types c.args.horizon) _ c.args.at c.in-Some.line r.result_value r.line_fits _ (λ j. record { resource = nat_abs (at 0 (omega arith) j); lo = nat_abs (at 1 (omega arith) j); hi = nat_abs (at 2 (omega arith) j) }) c.in_default-op_answer.ensures refl

@@ -1,14 +1,15 @@
 -- From what `answer` and `put_text` ensure.
 use Rattle.std.proofs.Common.{sym, ◌∙◌}
+use Rattle.refusal.specs.Number.{no_zero}
 use Rattle.sheet.specs.AnswerLaws.{sheet_in, sheet_inside}
 use Rattle.writer.specs.Wrote.{stopped, made}
 use Rattle.writer.proofs.write.Goals as goal
 
-pub returns-then-refusal-ne0 : goal.returns-then-refusal-ne0
-returns-then-refusal-ne0 c = stopped c.answer-refusal.ensures (λ x. c.if-refusal-ne0.true (c.answer-refusal.ensures ∙ sheet_in _ x))
+pub returns-in-Err : goal.returns-in-Err
+returns-in-Err c = rw c.number.ensures (stopped c.in-Err.ensures (λ x. no_zero _ (c.in-Err.ensures ∙ sheet_in _ x)))
 
 pub put_text-requires : goal.put_text-requires
-put_text-requires c = sheet_inside _ (sym c.answer-refusal.ensures ∙ c.if-refusal-ne0.false)
+put_text-requires c = sheet_inside _ (sym c.in_default.ensures)
 
 pub returns : goal.returns
-returns c = made (sheet_inside _ (sym c.answer-refusal.ensures ∙ c.if-refusal-ne0.false)) c.put_text.ensures.0 c.put_text.ensures.1
+returns c = made (sheet_inside _ (sym c.in_default.ensures)) c.put_text.ensures.0 c.put_text.ensures.1
