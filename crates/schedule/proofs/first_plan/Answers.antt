@@ -2,7 +2,6 @@
 use Rattle.std.proofs.Common.{subst, refl}
 use Rattle.dependence.specs.declared.Graph.{Graph}
 use Rattle.dependence.specs.Answer.{TableAnswer, Lags}
-use Rattle.sheet.specs.Sheet.{graph_of}
 use Rattle.model.specs.TaskLaws.{instances_few, task_ok}
 use Rattle.schedule.specs.Served.{lags_found, denied_answer, given_answer}
 use Rattle.schedule.proofs.first_plan.Goals as goal

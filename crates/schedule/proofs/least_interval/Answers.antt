@@ -1,5 +1,4 @@
-use Rattle.std.proofs.Common.{refl, ap, ◌≤◌, arith}
-use Rattle.std.proofs.lemmas.Bool.{eqb-true, eqb-false}
+use Rattle.std.proofs.Common.{refl, ap, arith}
 use Rattle.refusal.specs.Number.{no_zero}
 use Rattle.sheet.specs.Facts.{cap_most}
 use Rattle.sheet.specs.Questions.{at_no, at_yes, Accepted, sheet_accepted, sheet_refuses}
@@ -23,7 +22,7 @@ loop-interval-preserved c =
     let y : Accepted _ _ = record { sheet = sheet_accepted c.in_default.ensures refl; interval = record { low = c.loop-interval.invariant.0; high = c.loop-interval-test.true } } in (
       omega arith,
       omega (arith, c.loop-interval-test.true),
-      none_more c.loop-interval.invariant.2 y c.plan_at-plan.ensures (eqb-false _ _ c.if-found.false),
+      none_more c.loop-interval.invariant.2 y c.plan_at-plan.ensures c.if-found.false,
     )
 
 pub returns : goal.returns
@@ -31,4 +30,4 @@ returns c =
     at_yes (sheet_accepted c.in_default.ensures refl) (at_no (λ x. c.loop-interval.invariant.2.none x.at x.interval.low (omega (arith, x.interval.high, c.loop-interval-test.false)) x.plan) refl)
 
 pub returns-then-found : goal.returns-then-found
-returns-then-found c = at_yes (sheet_accepted c.in_default.ensures refl) (least_answer c.plan_at-plan.ensures (eqb-true _ _ c.if-found.true) c.loop-interval.invariant.2)
+returns-then-found c = at_yes (sheet_accepted c.in_default.ensures refl) (least_answer c.plan_at-plan.ensures c.if-found.true c.loop-interval.invariant.2)
