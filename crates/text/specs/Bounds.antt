@@ -87,7 +87,7 @@ numbers_most : (vs : List ℤ) → Within longest_number vs
 numbers_most [] = tt
 numbers_most (v ∷ vs) = (integer_most v, numbers_most vs)
 
--- a line by the number of its key
+-- the text of a line
 pub text_most : (l : declared.Line) → length l.values ≤ most_values → length (text_of l) ≤ longest_line
 unfolding text_of
 text_most l h =
