@@ -1,8 +1,18 @@
-use Rattle.std.proofs.Common.{refl, arith}
+use Rattle.std.proofs.Common.{List, [], ℤ, refl, arith}
+use Rattle.std.proofs.lemmas.List.{get_or-replicate}
+use Rattle.sizes.specs.Sizes.{most_operations}
 use Rattle.lags.specs.Lag.{lag_row}
 use Rattle.dependence.specs.Step.{no_bad, some_bad}
-use Rattle.dependence.specs.Answer.{table_bad, table_found}
+use Rattle.dependence.specs.Answer.{zero_row, table_bad, table_found}
 use Rattle.lags.proofs.lags.Goals as goal
+
+-- no row yet
+pub loop-i-init : goal.loop-i-init
+loop-i-init c = record {
+  long = refl;
+  rows = λ x h. absurd (omega (arith, h));
+  rest = λ x _ h. get_or-replicate {A = List ℤ} most_operations x zero_row [] h;
+}
 
 pub returns-in_default : goal.returns-in_default
 returns-in_default c =

@@ -4,6 +4,10 @@ use Rattle.dependence.specs.Step.{more_bad, no_bad, some_bad}
 use Rattle.constraints.proofs.Settling.{when_some, when_none}
 use Rattle.constraints.proofs.bound.recurrence_bound.Goals as goal
 
+-- there is no interval below 1
+pub loop-l-init : goal.loop-l-init
+loop-l-init c = λ i a b. absurd (omega (arith, a, b))
+
 pub returns-then-is_some : goal.returns-then-is_some
 returns-then-is_some c =
     let n = c.in_range.ensures.yes c.if-in_range.true in

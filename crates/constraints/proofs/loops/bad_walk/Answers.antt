@@ -1,8 +1,14 @@
 use Rattle.std.proofs.Common.{refl}
-use Rattle.dependence.specs.Answer.{walk_five, walk_none}
+use Rattle.dependence.specs.Answer.{walk_four, walk_five, walk_none}
 use Rattle.dependence.specs.Step.{refusal, no_bad}
 use Rattle.constraints.proofs.Settling.{when_some}
 use Rattle.constraints.proofs.loops.bad_walk.Goals as goal
+
+pub returns-then-not-interval_ok : goal.returns-then-not-interval_ok
+returns-then-not-interval_ok c =
+    let n = c.in_range.ensures.yes c.if-not-in_range.false in
+    let z = c.without_loop-then-not-interval_ok.ensures in
+    walk_four z.0 z.1 z.2 n (c.interval_ok.ensures.no c.if-not-interval_ok.true)
 
 pub returns-then-is_some : goal.returns-then-is_some
 returns-then-is_some c =
