@@ -1,113 +1,141 @@
 -- The bounds after a cut are the box after it, and stay near 0. Assumes nothing.
-use Rattle.std.specs.Prelude.{◌≡◌, true, false, List, ℕ, ◌+◌, ◌≤◌, ◌<◌, max, min, length, get_or, set, ℤ, pos}
-use Rattle.std.proofs.Common.{sym, subst, ◌∙◌, arith, get_or-set_same, get_or-set_other}
+use Rattle.std.specs.Prelude.{◌≡◌, refl, true, false, ℕ, ◌+◌, ◌≤◌, ◌<◌, max, min, length, get_or, set, ℤ, pos}
+use Rattle.std.proofs.Common.{sym, subst, ap, ◌∙◌, arith, get_or-set_same, get_or-set_other}
 use Rattle.std.proofs.Math.Decide.{ℕ_discrete}
-use Rattle.std.specs.Int.Signed.{le_z}
+use Rattle.std.specs.Int.Signed.{le_z, lt_z}
+use Rattle.std.specs.Int.{int_min}
 use Rattle.sizes.specs.Sizes.{most_operations}
-use Rattle.laws.specs.Entry.{vec, at}
+use Rattle.laws.specs.Z.{zed, le_z_true, le_z_false, lt_z_true, true_lt_z}
 use Rattle.laws.specs.Store.{store}
+use Rattle.laws.specs.Tests.{by_test}
 use Rattle.text.specs.Sizes.{four_digits}
 use Rattle.denial.specs.Box.{changed, lesser, starts_to, starts_above, instances_to, instances_above}
 use Rattle.denial.specs.BoxLaws.{which, changed_here, changed_other}
+use Rattle.denial.specs.Passes as passes
+use Rattle.tree_lines.specs.Node.{cut_seen}
+use Rattle.tree_lines.specs.declared.Cut.{Cut}
+use Rattle.tree_lines.specs.declared.Cut.TheVariants.{Split, Seat}
+use Rattle.tree_boxes.specs.declared.Left.{Left}
 use Rattle.tree_boxes.specs.declared.Bounds.{Bounds}
 use Rattle.tree_boxes.specs.Within.{Within, most_bound, within_lesser}
-use Rattle.tree_boxes.specs.Bounds.{box_of, Small}
+use Rattle.tree_boxes.specs.Bounds.{nothing, left_at, box_of, SmallLeft, Small}
 
--- the bounds with another number of operation i
-abbrev pub with_lowest : Bounds → ℕ → ℕ → Bounds
-with_lowest b i x = record { lowest = set b.lowest i x; highest = b.highest; first = b.first; last = b.last }
+-- the library's lesser of two starts
+pub lesser_is : (z : ℤ) (v : ℕ) → int_min z (pos v) ≡ lesser z v
+unfolding lesser
+lesser_is z v =
+    by_test (le_z z (pos v))
+    (λ t. rw t (by_test (lt_z (pos v) z)
+    (λ u. absurd (let a = le_z_true z (pos v) t in let b = lt_z_true (pos v) z u in omega (arith, zed, a, b)))
+    (λ u. rw u)))
+    (λ t. rw (t, true_lt_z (le_z_false z (pos v) t)))
 
-abbrev pub with_highest : Bounds → ℕ → ℤ → Bounds
-with_highest b i z = record { lowest = b.lowest; highest = set b.highest i z; first = b.first; last = b.last }
+-- ---- bounds with another entry for operation i
 
-abbrev pub with_first : Bounds → ℕ → ℕ → Bounds
-with_first b i x = record { lowest = b.lowest; highest = b.highest; first = set b.first i x; last = b.last }
+module _ (b : Bounds) (i : ℕ) (x : Left) (whole : length b.each ≡ most_operations) (known : i < most_operations) where
+  abbrev pub put : Bounds
+  put = record { each = set b.each i x }
 
-abbrev pub with_last : Bounds → ℕ → ℕ → Bounds
-with_last b i x = record { lowest = b.lowest; highest = b.highest; first = b.first; last = set b.last i x }
+  within : i < length b.each
+  within = omega arith
 
--- ---- laws
+  -- a part that is changed, and one that is kept
+  changed_part : {A : Type 0} (f : Left → A) (y : A) → f x ≡ y → (j : ℕ)
+      → f (left_at put j) ≡ changed i y (λ k. f (left_at b k)) j
+  changed_part {A} f y e j =
+      which (ℕ_discrete j i)
+      (λ q. subst (λ (k : ℕ). f (left_at put k) ≡ changed i y g k) (sym q)
+      (ap f (get_or-set_same b.each i x nothing within) ∙ e ∙ sym (changed_here i y g)))
+      (λ n. ap f (get_or-set_other b.each i j x nothing n) ∙ sym (changed_other i y g j n))
+    where
+      g : ℕ → A
+      g k = f (left_at b k)
 
--- the two outcomes of the test of `lesser`
-module _ (z : ℤ) (v : ℕ) where
-  pub lesser_le : le_z z (pos v) ≡ true → z ≡ lesser z v
-  unfolding lesser
-  lesser_le e = rw e
+  kept_part : {A : Type 0} (f : Left → A) → f x ≡ f (left_at b i) → (j : ℕ) → f (left_at put j) ≡ f (left_at b j)
+  kept_part f e j =
+      which (ℕ_discrete j i)
+      (λ q. subst (λ (k : ℕ). f (left_at put k) ≡ f (left_at b k)) (sym q)
+      (ap f (get_or-set_same b.each i x nothing within) ∙ e))
+      (λ n. ap f (get_or-set_other b.each i j x nothing n))
 
-  pub lesser_gt : le_z z (pos v) ≡ false → pos v ≡ lesser z v
-  unfolding lesser
-  lesser_gt e = rw e
+  small_put : Small b → SmallLeft x → Small put
+  small_put small here j q = store (λ _ y. SmallLeft y) b.each i x nothing within here j (λ _. small j q)
 
--- an array after a store
-stored : {A : Type 0} (l : List A) (i : ℕ) (x y d : A) → i < length l → x ≡ y → (j : ℕ)
-    → get_or (set l i x) j d ≡ changed i y (λ k. get_or l k d) j
-stored {A} l i x y d h e j =
-    let here = get_or-set_same l i x d h ∙ e ∙ sym (changed_here i y f) in
-    which (ℕ_discrete j i)
-    (λ q. subst (λ (k : ℕ). get_or (set l i x) k d ≡ changed i y f k) (sym q) here)
-    (λ n. get_or-set_other l i j x d n ∙ sym (changed_other i y f j n))
-  where
-    f : ℕ → A
-    f k = get_or l k d
+-- ---- each part of a cut is one store
 
--- each part of a cut is one store
-module _ (b : Bounds) (i v : ℕ) where
-  pub starts_to_box : (z : ℤ) → i < length b.highest → z ≡ lesser (at b.highest i) v
-      → box_of (with_highest b i z) ≡ starts_to (box_of b) i v
-  unfolding starts_to
-  starts_to_box z h e = λ p. record {
-    lowest = λ j. vec b.lowest j;
-    highest = λ j. stored b.highest i z _ (pos 0) h e j p;
-    first = λ j. vec b.first j;
-    last = λ j. vec b.last j;
-  }
+module _ (b : Bounds) (i v : ℕ) (whole : length b.each ≡ most_operations) (known : i < most_operations)
+    (few : v ≤ four_digits) (small : Small b) where
+  abbrev old : Left
+  old = left_at b i
 
-  pub starts_above_box : (x : ℕ) → i < length b.lowest → x ≡ max (vec b.lowest i) (v + 1)
-      → box_of (with_lowest b i x) ≡ starts_above (box_of b) i v
-  unfolding starts_above
-  starts_above_box x h e = λ p. record {
-    lowest = λ j. stored b.lowest i x _ 0 h e j p;
-    highest = λ j. at b.highest j;
-    first = λ j. vec b.first j;
-    last = λ j. vec b.last j;
-  }
+  abbrev new : Left → Bounds
+  new x = put b i x whole known
 
-  pub instances_to_box : (x : ℕ) → i < length b.last → x ≡ min (vec b.last i) v
-      → box_of (with_last b i x) ≡ instances_to (box_of b) i v
-  unfolding instances_to
-  instances_to_box x h e = λ p. record {
-    lowest = λ j. vec b.lowest j;
-    highest = λ j. at b.highest j;
-    first = λ j. vec b.first j;
-    last = λ j. stored b.last i x _ 0 h e j p;
-  }
+  -- what the contract of `up_to` says of the bounds after a cut, and that of `above`
+  abbrev Below : Cut → Left → Type 0
+  Below cut x = (box_of (new x) ≡ passes.up_to (box_of b) (cut_seen cut)) × Small (new x)
 
-  pub instances_above_box : (x : ℕ) → i < length b.first → x ≡ max (vec b.first i) (v + 1)
-      → box_of (with_first b i x) ≡ instances_above (box_of b) i v
-  unfolding instances_above
-  instances_above_box x h e = λ p. record {
-    lowest = λ j. vec b.lowest j;
-    highest = λ j. at b.highest j;
-    first = λ j. stored b.first i x _ 0 h e j p;
-    last = λ j. vec b.last j;
-  }
+  abbrev Above : Cut → Left → Type 0
+  Above cut x = (box_of (new x) ≡ passes.above (box_of b) (cut_seen cut)) × Small (new x)
 
--- the starts stay near 0
-module _ (b : Bounds) (i v : ℕ) (known : i < most_operations) (few : v ≤ four_digits) (small : Small b) where
-  pub starts_to_small : (z : ℤ) → i < length b.highest → z ≡ lesser (at b.highest i) v
-      → Small (with_highest b i z)
-  starts_to_small z h e =
-      let near = subst (Within most_bound) (sym e) (within_lesser (small.highest i known) (omega arith)) in
-      record {
-        lowest = small.lowest;
-        highest = λ j q. store (λ _ y. Within most_bound y) b.highest i z (pos 0) h near j (λ _. small.highest j q);
-      }
+  pub starts_to_is : (z : ℤ) → z ≡ lesser old.highest v
+      → Below (Split i v) (record { lowest = old.lowest; highest = z; first = old.first; last = old.last })
+  unfolding passes.up_to starts_to
+  starts_to_is z e =
+      let x : Left = record { lowest = old.lowest; highest = z; first = old.first; last = old.last } in (
+        λ p. record {
+          lowest = λ j. kept_part b i x whole known (λ y. y.lowest) refl j p;
+          highest = λ j. changed_part b i x whole known (λ y. y.highest) _ e j p;
+          first = λ j. kept_part b i x whole known (λ y. y.first) refl j p;
+          last = λ j. kept_part b i x whole known (λ y. y.last) refl j p;
+        },
+        small_put b i x whole known small (record {
+          lowest = (small i known).lowest;
+          highest = subst (Within most_bound) (sym e) (within_lesser (small i known).highest (omega arith));
+        }),
+      )
 
-  pub starts_above_small : (x : ℕ) → i < length b.lowest → x ≡ max (vec b.lowest i) (v + 1)
-      → Small (with_lowest b i x)
-  starts_above_small x h e =
-      let near : x ≤ most_bound = omega (arith, small.lowest i known) in
-      record {
-        lowest = λ j q. store (λ _ y. y ≤ most_bound) b.lowest i x 0 h near j (λ _. small.lowest j q);
-        highest = small.highest;
-      }
+  pub starts_above_is : (n : ℕ) → n ≡ max old.lowest (v + 1)
+      → Above (Split i v) (record { lowest = n; highest = old.highest; first = old.first; last = old.last })
+  unfolding passes.above starts_above
+  starts_above_is n e =
+      let x : Left = record { lowest = n; highest = old.highest; first = old.first; last = old.last } in (
+        λ p. record {
+          lowest = λ j. changed_part b i x whole known (λ y. y.lowest) _ e j p;
+          highest = λ j. kept_part b i x whole known (λ y. y.highest) refl j p;
+          first = λ j. kept_part b i x whole known (λ y. y.first) refl j p;
+          last = λ j. kept_part b i x whole known (λ y. y.last) refl j p;
+        },
+        small_put b i x whole known small (record {
+          lowest = omega (arith, (small i known).lowest);
+          highest = (small i known).highest;
+        }),
+      )
+
+  pub instances_to_is : (n : ℕ) → n ≡ min old.last v
+      → Below (Seat i v) (record { lowest = old.lowest; highest = old.highest; first = old.first; last = n })
+  unfolding passes.up_to instances_to
+  instances_to_is n e =
+      let x : Left = record { lowest = old.lowest; highest = old.highest; first = old.first; last = n } in (
+        λ p. record {
+          lowest = λ j. kept_part b i x whole known (λ y. y.lowest) refl j p;
+          highest = λ j. kept_part b i x whole known (λ y. y.highest) refl j p;
+          first = λ j. kept_part b i x whole known (λ y. y.first) refl j p;
+          last = λ j. changed_part b i x whole known (λ y. y.last) _ e j p;
+        },
+        small_put b i x whole known small (record { lowest = (small i known).lowest; highest = (small i known).highest }),
+      )
+
+  pub instances_above_is : (n : ℕ) → n ≡ max old.first (v + 1)
+      → Above (Seat i v) (record { lowest = old.lowest; highest = old.highest; first = n; last = old.last })
+  unfolding passes.above instances_above
+  instances_above_is n e =
+      let x : Left = record { lowest = old.lowest; highest = old.highest; first = n; last = old.last } in (
+        λ p. record {
+          lowest = λ j. kept_part b i x whole known (λ y. y.lowest) refl j p;
+          highest = λ j. kept_part b i x whole known (λ y. y.highest) refl j p;
+          first = λ j. changed_part b i x whole known (λ y. y.first) _ e j p;
+          last = λ j. kept_part b i x whole known (λ y. y.last) refl j p;
+        },
+        small_put b i x whole known small (record { lowest = (small i known).lowest; highest = (small i known).highest }),
+      )

@@ -1,10 +1,17 @@
 -- The line of a node of a denial's tree: its key, its numbers, and that the sheet has its operations and its edges.
-use Rattle.std.specs.Prelude.{ℕ, ◌≤◌, ◌<◌, ◌≡◌, List, [], ◌∷◌, Bool, true, false, cond, eqb, ltb, leb, length, drop, take, get_or, replicate}
+use Rattle.std.specs.Prelude.{ℕ, ◌≤◌, ◌<◌, ◌≡◌, List, [], ◌∷◌, Bool, true, false, cond, ltb, length, drop, take, get_or, Option, None, Some}
 use Rattle.text.specs.Sizes.{four_digits}
 use Rattle.text.specs.Keys.{loop_key}
 use Rattle.scan_list.specs.List.{most_items, on_listed, list_of}
 use Rattle.denial.specs.Tree.{Cut, split, seat, Leaf, loop, late, clash}
+use Rattle.tree_lines.specs.declared.Cut as code
+use Rattle.tree_lines.specs.declared.Cut.TheVariants.{Split, Seat}
+use Rattle.tree_lines.specs.declared.Leaf as code_leaf
+use Rattle.tree_lines.specs.declared.Leaf.TheVariants.{Loop, Late, Clash}
 use Rattle.tree_lines.specs.declared.Node.{Node}
+use Rattle.tree_lines.specs.declared.Node.TheVariants.{Cutting, Closing}
+use Rattle.tree_lines.specs.declared.NodeLine.{NodeLine}
+use Rattle.tree_lines.specs.declared.Numbers.{Numbers}
 
 -- `split=`
 abbrev pub split_key : List ℕ
@@ -85,41 +92,56 @@ node_of n m bs =
 -- ---- what is found at a place of the bytes s
 
 -- the numbers of a line
-abbrev pub numbers_of : Node → List ℕ
-numbers_of r = take r.count r.values
+abbrev pub numbers_of : Numbers → List ℕ
+numbers_of l = take l.count l.values
 
--- the cut of a node whose kind is 1 or 2
-unfoldable pub cut_seen : Node → Cut
-cut_seen r =
-    cond (eqb r.kind 1) (split (get_or r.values 0 0) (get_or r.values 1 0))
-    (seat (get_or r.values 0 0) (get_or r.values 1 0))
+-- the cut
+abbrev pub cut_seen : code.Cut → Cut
+cut_seen (Split i v) = split i v
+cut_seen (Seat i k) = seat i k
 
--- the leaf of a node whose kind is 3, 4 or 5
-unfoldable pub leaf_seen : Node → Leaf
-leaf_seen r =
-    cond (eqb r.kind 3) (loop (numbers_of r))
-    (cond (eqb r.kind 4) (late (get_or r.values 0 0) (drop 1 (numbers_of r)))
-    (clash (get_or r.values 0 0) (get_or r.values 1 0)))
+-- the leaf
+abbrev pub leaf_seen : code_leaf.Leaf → Leaf
+leaf_seen (Loop l) = loop (numbers_of l)
+leaf_seen (Late l) = late (get_or l.values 0 0) (drop 1 (numbers_of l))
+leaf_seen (Clash i j) = clash i j
+
+-- the node, with these bytes after its line
+abbrev pub node_seen : Node → List ℕ → NodeRead
+node_seen (Cutting c) rest = cutting (cut_seen c) rest
+node_seen (Closing x) rest = closing (leaf_seen x) rest
 
 -- a node and the bytes from the place after its line on, or that there is none
-unfoldable pub seen_node : List ℕ → Node → NodeRead
-seen_node s r =
-    cond (eqb r.kind 0) malformed
-    (cond (leb r.kind 2) (cutting (cut_seen r) (drop r.next s)) (closing (leaf_seen r) (drop r.next s)))
+abbrev pub seen_node : List ℕ → Option NodeLine → NodeRead
+seen_node s (Some r) = node_seen r.node (drop r.next s)
+seen_node s None = malformed
 
--- everything 0
-abbrev pub no_node : Node
-no_node = record { kind = 0; count = 0; values = replicate most_items 0; next = 0 }
+-- numbers of a line are within the array and have at most four digits; past them there are zeros
+pub record NumbersFit (l : Numbers) : Type 0 where
+  pub whole : length l.values ≡ most_items
+  pub count : l.count ≤ most_items
+  pub some : 0 < l.count
+  pub small : (i : ℕ) → get_or l.values i 0 ≤ four_digits
+  pub past : (i : ℕ) → l.count ≤ i → get_or l.values i 0 ≡ 0
 
--- the place after the line lies within s, its numbers are within the array and have at most four digits; of a line that
--- is none everything is 0
-pub record NodeFits (s : List ℕ) (r : Node) : Type 0 where
-  pub whole : length r.values ≡ most_items
-  pub count : r.count ≤ most_items
-  pub some : 0 < r.kind → 0 < r.count
+-- two numbers of at most four digits
+abbrev pub PairFits : ℕ → ℕ → Type 0
+PairFits i v = (i ≤ four_digits) × (v ≤ four_digits)
+
+abbrev pub CutSmall : code.Cut → Type 0
+CutSmall (Split i v) = PairFits i v
+CutSmall (Seat i k) = PairFits i k
+
+abbrev pub LeafSmall : code_leaf.Leaf → Type 0
+LeafSmall (Loop l) = NumbersFit l
+LeafSmall (Late l) = NumbersFit l
+LeafSmall (Clash i j) = PairFits i j
+
+abbrev pub NodeSmall : Node → Type 0
+NodeSmall (Cutting c) = CutSmall c
+NodeSmall (Closing x) = LeafSmall x
+
+-- the place after the line lies within s, and the numbers of the node are small
+pub record NodeFits (s : List ℕ) (r : NodeLine) : Type 0 where
   pub next : r.next ≤ length s
-  pub small : (i : ℕ) → get_or r.values i 0 ≤ four_digits
-  pub past : (i : ℕ) → r.count ≤ i → get_or r.values i 0 ≡ 0
-  pub kinds : r.kind ≤ 5
-  pub pairs : 0 < r.kind → (r.kind ≡ 3 → ⊥) → (r.kind ≡ 4 → ⊥) → r.count ≡ 2
-  pub none : r.kind ≡ 0 → r ≡ no_node
+  pub node : NodeSmall r.node

@@ -1,49 +1,49 @@
 -- From the lines that `read_list` finds to the node that `read_node` gives, and what is known of a node that was read.
 -- Assumes nothing.
-use Rattle.std.specs.Prelude.{◌≡◌, Bool, cond, List, [], ◌∷◌, ℕ, zero, suc, ◌+◌, ◌≤◌, ◌<◌, eqb, ltb, drop, take, get_or}
-use Rattle.std.proofs.Math.Path.{refl, sym}
-use Rattle.std.proofs.Common.{ap, ◌∙◌, arith, add-one, drop_of_length-le, drop-cons, get_or-take}
-use Rattle.std.proofs.Math.Bool.{true, false}
-use Rattle.std.proofs.Math.ListN.{length}
-use Rattle.std.proofs.Math.Seq.{length-take-le}
-use borrow.Author.Tests.{lt-ltb, le-ltb, ltb-true, eqb-true, eq-eqb}
+use Rattle.std.specs.Prelude.{◌≡◌, refl, Bool, true, false, cond, List, [], ◌∷◌, ℕ, zero, suc, ◌-◌, ◌<◌, ◌↔◌, eqb, ltb, length, drop, take, get_or, EachIndex, IsTrue, Option, None, Some, IfSome}
+use Rattle.std.proofs.Common.{sym, ap, ◌∙◌, arith, length-take-le}
+use borrow.Author.Tests.{lt-ltb, ltb-true, eqb-true, eq-eqb}
 use Rattle.laws.specs.Z.{true_false}
-use Rattle.laws.specs.Store.{all_zero}
 use Rattle.laws.specs.Tests.{by_test}
 use Rattle.text.specs.Keys.{loop_key}
 use Rattle.scan_list.specs.List.{most_items, Listed, listed, unlisted, on_listed, list_of, ItemsFit}
 use Rattle.scan_list.specs.declared.Items.{Items}
 use Rattle.denial.specs.Tree.{Cut, split, seat, loop, late, clash, Below, none, more, CutKnown, LeafKnown}
+use Rattle.tree_lines.specs.declared.Cut.TheVariants.{Split, Seat}
+use Rattle.tree_lines.specs.declared.Leaf.TheVariants.{Loop, Late, Clash}
 use Rattle.tree_lines.specs.declared.Node.{Node}
+use Rattle.tree_lines.specs.declared.Node.TheVariants.{Cutting, Closing}
+use Rattle.tree_lines.specs.declared.NodeLine.{NodeLine}
+use Rattle.tree_lines.specs.declared.Numbers.{Numbers}
 use Rattle.tree_lines.specs.Node.{split_key, seat_key, late_key, clash_key, most_chained}
 use Rattle.tree_lines.specs.Node.{NodeRead, cutting, closing, malformed, both, all_below}
 use Rattle.tree_lines.specs.Node.{cut_of, loop_of, late_of, clash_of, node_of}
-use Rattle.tree_lines.specs.Node.{cut_seen, leaf_seen, seen_node, no_node, NodeFits}
+use Rattle.tree_lines.specs.Node.{node_seen, seen_node, NodeFits}
 
--- ---- numbers below a limit, one at a time
+-- ---- numbers below a limit
 
-module _ (limit count i : ℕ) (vs : List ℕ) (l : count ≤ length vs) where
-  pub below_end : count ≤ i → all_below limit (drop i (take count vs)) ≡ true
-  unfolding all_below
-  below_end h =
-      let q : length (take count vs) ≤ i = omega (arith, length-take-le count vs l) in
-      rw (drop_of_length-le (take count vs) q)
+-- the test says of each number that it is below
+below_each : (limit : ℕ) (vs : List ℕ) → ((k : ℕ) → k < length vs → get_or vs k 0 < limit) → all_below limit vs ≡ true
+unfolding all_below
+below_each limit [] h = refl
+below_each limit (v ∷ vs) h =
+    rw (lt-ltb v limit (h 0 (omega arith))) (below_each limit vs (λ k q. h (suc k) (omega arith)))
 
-  module _ (h : i < count) where
-    next : drop i (take count vs) ≡ get_or vs i 0 ∷ drop (i + 1) (take count vs)
-    next =
-        let q = length-take-le count vs l in
-        rw add-one (drop-cons (take count vs) i 0 (omega arith)
-        ∙ ap (λ (x : ℕ). x ∷ drop (suc i) (take count vs)) (get_or-take count vs i 0 h))
+each_below : (limit : ℕ) (vs : List ℕ) → all_below limit vs ≡ true → (k : ℕ) → k < length vs → get_or vs k 0 < limit
+unfolding all_below
+each_below limit [] e k h = absurd (omega arith)
+each_below limit (v ∷ vs) e zero h = by_test (ltb v limit) (λ t. ltb-true v limit t) (λ t. true_false (sym (rw t at e)))
+each_below limit (v ∷ vs) e (suc k) h =
+    by_test (ltb v limit) (λ t. each_below limit vs (rw t at e) k (omega arith)) (λ t. true_false (sym (rw t at e)))
 
-    pub below_not : limit ≤ get_or vs i 0 → all_below limit (drop i (take count vs)) ≡ false
-    unfolding all_below
-    below_not q = rw (next, le-ltb (get_or vs i 0) limit q)
-
-    pub below_next : get_or vs i 0 < limit
-        → all_below limit (drop i (take count vs)) ≡ all_below limit (drop (i + 1) (take count vs))
-    unfolding all_below
-    below_next q = rw (next, lt-ltb (get_or vs i 0) limit q)
+pub below_test : (limit : ℕ) (vs : List ℕ) (r : Bool) → (IsTrue r ↔ EachIndex vs (λ k. get_or vs k 0 < limit))
+    → r ≡ all_below limit vs
+below_test limit vs r e = same (all_below limit vs) refl r refl
+  where
+    same : (a : Bool) → all_below limit vs ≡ a → (b : Bool) → r ≡ b → r ≡ all_below limit vs
+    same true p b q = e.1 (each_below limit vs p) ∙ sym p
+    same false p true q = true_false (sym (below_each limit vs (e.0 q)) ∙ p)
+    same false p false q = q ∙ sym p
 
 -- ---- the numbers of a line
 
@@ -58,6 +58,13 @@ pub some_numbers : (count : ℕ) (vs : List ℕ) → length vs ≡ most_items �
 some_numbers (suc k) (a ∷ vs) l h = refl
 some_numbers zero vs l h = absurd (omega arith)
 some_numbers (suc k) [] l h = absurd (omega arith)
+
+-- the numbers after the first
+pub tail_of : (count : ℕ) (vs : List ℕ) → length vs ≡ most_items → 0 < count
+    → take (count - 1) (drop 1 vs) ≡ drop 1 (take count vs)
+tail_of (suc k) (a ∷ vs) l h = let e : suc k - 1 ≡ k = omega arith in ap (λ (n : ℕ). take n vs) e
+tail_of zero vs l h = absurd (omega arith)
+tail_of (suc k) [] l h = absurd (omega arith)
 
 cut_other : (f : ℕ → ℕ → Cut) (n : ℕ) (vs rest : List ℕ) → (length vs ≡ 2 → ⊥) → cut_of f n vs rest ≡ malformed
 unfolding cut_of
@@ -80,9 +87,9 @@ late_cons n m i ks vs rest e = rw e
 
 -- ---- the node of a line
 
--- one of this kind, or none
-unfoldable pub node_if : Bool → ℕ → Items → Node
-node_if known kind l = cond known (record { kind = kind; count = l.count; values = l.values; next = l.next }) no_node
+-- a node where it is known
+abbrev pub node_if : Bool → Node → ℕ → Option NodeLine
+node_if known x next = cond known (Some (record { node = x; next = next })) None
 
 -- the flags that the code has of a line
 abbrev first : Items → ℕ
@@ -103,113 +110,34 @@ late_known n m l = both (ltb (first l) n) (all_below m (drop 1 (numbers l)))
 abbrev clash_known : ℕ → Items → Bool
 clash_known n l = both (eqb l.count 2) (both (ltb (first l) n) (ltb (second l) n))
 
-module _ (s : List ℕ) (l : Items) where
-  is_split : (c : Bool)
-      → seen_node s (node_if c 1 l) ≡ cond c (cutting (split (first l) (second l)) (drop l.next s)) malformed
-  unfolding seen_node node_if cut_seen
-  is_split true = refl
-  is_split false = refl
+module _ {s : List ℕ} {l : Items} (fit : ItemsFit s l) where
+  pair : l.count ≡ 2 → numbers l ≡ first l ∷ second l ∷ []
+  pair e = two_numbers l.count l.values fit.whole e
 
-  is_seat : (c : Bool)
-      → seen_node s (node_if c 2 l) ≡ cond c (cutting (seat (first l) (second l)) (drop l.next s)) malformed
-  unfolding seen_node node_if cut_seen
-  is_seat true = refl
-  is_seat false = refl
+  no_pair : eqb l.count 2 ≡ false → length (numbers l) ≡ 2 → ⊥
+  no_pair e q =
+      let z = length-take-le l.count l.values (omega (arith, fit.count, fit.whole)) in
+      true_false (sym (eq-eqb l.count 2 (sym z ∙ q)) ∙ e)
 
-  is_loop : (c : Bool) → seen_node s (node_if c 3 l) ≡ cond c (closing (loop (numbers l)) (drop l.next s)) malformed
-  unfolding seen_node node_if leaf_seen
-  is_loop true = refl
-  is_loop false = refl
+  module _ (n : ℕ) (rest : List ℕ) where
+    cut_is : (f : ℕ → ℕ → Cut) → cond (cut_known n l) (cutting (f (first l) (second l)) rest) malformed ≡ cut_of f n (numbers l) rest
+    unfolding cut_of
+    cut_is f =
+        by_test (eqb l.count 2)
+        (λ t. rw (t, pair (eqb-true l.count 2 t)))
+        (λ t. rw t (sym (cut_other f n (numbers l) rest (no_pair t))))
 
-  is_late : (c : Bool)
-      → seen_node s (node_if c 4 l) ≡ cond c (closing (late (first l) (drop 1 (numbers l))) (drop l.next s)) malformed
-  unfolding seen_node node_if leaf_seen
-  is_late true = refl
-  is_late false = refl
+    clash_is : cond (clash_known n l) (closing (clash (first l) (second l)) rest) malformed ≡ clash_of n (numbers l) rest
+    unfolding clash_of
+    clash_is =
+        by_test (eqb l.count 2)
+        (λ t. rw (t, pair (eqb-true l.count 2 t)))
+        (λ t. rw t (sym (clash_other n (numbers l) rest (no_pair t))))
 
-  is_clash : (c : Bool)
-      → seen_node s (node_if c 5 l) ≡ cond c (closing (clash (first l) (second l)) (drop l.next s)) malformed
-  unfolding seen_node node_if leaf_seen
-  is_clash true = refl
-  is_clash false = refl
-
-  module _ (fit : ItemsFit s l) where
-    pair : l.count ≡ 2 → numbers l ≡ first l ∷ second l ∷ []
-    pair e = two_numbers l.count l.values fit.whole e
-
-    no_pair : eqb l.count 2 ≡ false → length (numbers l) ≡ 2 → ⊥
-    no_pair e q =
-        let z = length-take-le l.count l.values (omega (arith, fit.count, fit.whole)) in
-        true_false (sym (eq-eqb l.count 2 (sym z ∙ q)) ∙ e)
-
-    module _ (n : ℕ) where
-      -- a cut
-      cut_is : (kind : ℕ) (f : ℕ → ℕ → Cut)
-          → ((c : Bool)
-          → seen_node s (node_if c kind l) ≡ cond c (cutting (f (first l) (second l)) (drop l.next s)) malformed)
-          → seen_node s (node_if (cut_known n l) kind l) ≡ cut_of f n (numbers l) (drop l.next s)
-      unfolding cut_of
-      cut_is kind f is =
-          by_test (eqb l.count 2)
-          (λ t. rw (t, pair (eqb-true l.count 2 t)) (is (ltb (first l) n)))
-          (λ t. rw t (is false ∙ sym (cut_other f n (numbers l) (drop l.next s) (no_pair t))))
-
-      clash_is : seen_node s (node_if (clash_known n l) 5 l) ≡ clash_of n (numbers l) (drop l.next s)
-      unfolding clash_of
-      clash_is =
-          by_test (eqb l.count 2)
-          (λ t. rw (t, pair (eqb-true l.count 2 t)) (is_clash (both (ltb (first l) n) (ltb (second l) n))))
-          (λ t. rw t (is_clash false ∙ sym (clash_other n (numbers l) (drop l.next s) (no_pair t))))
-
-      module _ (m : ℕ) where
-        loop_is : seen_node s (node_if (all_below m (numbers l)) 3 l) ≡ loop_of m (numbers l) (drop l.next s)
-        unfolding loop_of
-        loop_is = is_loop (all_below m (numbers l))
-
-        late_is : 0 < l.count → seen_node s (node_if (late_known n m l) 4 l) ≡ late_of n m (numbers l) (drop l.next s)
-        late_is h =
-            is_late (late_known n m l)
-            ∙ late_cons n m (first l) (drop 1 (numbers l)) (numbers l) (drop l.next s)
-            (some_numbers l.count l.values fit.whole h)
-
--- ---- what the result promises
-
-none_fits : (s : List ℕ) → NodeFits s no_node
-none_fits s = record {
-  whole = refl;
-  count = omega arith;
-  some = λ q. absurd (omega arith);
-  next = omega arith;
-  small = λ i. rw (all_zero most_items i) (omega arith);
-  past = λ i _. all_zero most_items i;
-  kinds = omega arith;
-  pairs = λ q. absurd (omega arith);
-  none = λ _. refl;
-}
-
--- a line has numbers, and two where it is neither `loop=` nor `late=`
-abbrev Counts : ℕ → ℕ → Type 0
-Counts kind count = (0 < count) × ((kind ≡ 3 → ⊥) → (kind ≡ 4 → ⊥) → count ≡ 2)
-
-fits_node : {s : List ℕ} {l : Items} → ItemsFit s l → (known : Bool) (kind : ℕ) → 0 < kind → kind ≤ 5
-    → (known ≡ true → Counts kind l.count) → NodeFits s (node_if known kind l)
-unfolding node_if
-fits_node fit true kind lo hi h = record {
-  whole = fit.whole;
-  count = fit.count;
-  some = λ _. (h refl).0;
-  next = fit.next;
-  small = fit.small;
-  past = fit.past;
-  kinds = hi;
-  pairs = λ _. (h refl).1;
-  none = λ z. absurd (omega arith);
-}
-fits_node {s} fit false kind lo hi h = none_fits s
-
--- two numbers
-two : (count : ℕ) (c : Bool) → both (eqb count 2) c ≡ true → count ≡ 2
-two count c e = by_test (eqb count 2) (λ t. eqb-true count 2 t) (λ t. true_false (sym (rw t at e)))
+    late_is : (m : ℕ) → 0 < l.count
+        → cond (late_known n m l) (closing (late (first l) (drop 1 (numbers l))) rest) malformed ≡ late_of n m (numbers l) rest
+    late_is m h =
+        late_cons n m (first l) (drop 1 (numbers l)) (numbers l) rest (some_numbers l.count l.values fit.whole h)
 
 -- ---- the node of the bytes
 
@@ -248,62 +176,74 @@ module _ (n m : ℕ) (bs : List ℕ) where
 -- ---- what `read_node` gives
 
 -- what its contract says of a result at a place of the bytes s, of a sheet with n operations and m edges
-abbrev pub NodeAt : List ℕ → ℕ → ℕ → ℕ → Node → Type 0
-NodeAt s at n m r = (seen_node s r ≡ node_of n m (drop at s)) × NodeFits s r
+abbrev pub NodeAt : List ℕ → ℕ → ℕ → ℕ → Option NodeLine → Type 0
+NodeAt s at n m r = (seen_node s r ≡ node_of n m (drop at s)) × IfSome r (NodeFits s)
+
+loop_is : (n m : ℕ) (vs rest : List ℕ) → cond (all_below m vs) (closing (loop vs) rest) malformed ≡ loop_of m vs rest
+unfolding loop_of
+loop_is n m vs rest = refl
+
+-- a node where it is known, as it is seen
+seen_if : (s : List ℕ) (known : Bool) (x : Node) (next : ℕ)
+    → seen_node s (node_if known x next) ≡ cond known (node_seen x (drop next s)) malformed
+seen_if s true x next = refl
+seen_if s false x next = refl
 
 module _ (s : List ℕ) (at n m : ℕ) where
-  given : {l : Items} {known want : Bool} {kind : ℕ} {r : Node} → ItemsFit s l → 0 < kind → kind ≤ 5
-      → (want ≡ true → Counts kind l.count) → seen_node s (node_if want kind l) ≡ node_of n m (drop at s)
-      → known ≡ want → r ≡ node_if known kind l → NodeAt s at n m r
-  given {l} {known} {want} {kind} fit lo hi h e k q = rw (q, k) (e, fits_node fit want kind lo hi h)
+  -- a line that is found, and the node that it is where it is known
+  given : {known want : Bool} {r : Option NodeLine} (x : Node) (next : ℕ)
+      → cond want (node_seen x (drop next s)) malformed ≡ node_of n m (drop at s) → known ≡ want → r ≡ node_if known x next
+      → seen_node s r ≡ node_of n m (drop at s)
+  given {known} {want} x next e k q = rw (q, k) (seen_if s want x next ∙ e)
 
-  -- a line with this key was read, or there is none
+  -- a line with these numbers, or none
   abbrev pub Line : List ℕ → ℕ → Items → Type 0
-  Line key k l = (listed (numbers l) (drop l.next s) ≡ list_of key k (drop at s)) × ItemsFit s l
+  Line key most l = listed (numbers l) (drop l.next s) ≡ list_of key most (drop at s)
 
   abbrev pub NoLine : List ℕ → ℕ → Type 0
-  NoLine key k = unlisted ≡ list_of key k (drop at s)
+  NoLine key most = unlisted ≡ list_of key most (drop at s)
 
-  pub gives_split : {l : Items} {known : Bool} {r : Node} → Line split_key 2 l → known ≡ cut_known n l
-      → r ≡ node_if known 1 l → NodeAt s at n m r
-  gives_split {l} a =
-      given a.1 (omega arith) (omega arith) (λ z. let c = two l.count _ z in (omega arith, λ _ _. c))
-      (cut_is s l a.1 n 1 split (is_split s l) ∙ sym (node_split n m (drop at s) (sym a.0)))
+  -- what is found is the node of the bytes
+  abbrev Is : Option NodeLine → Type 0
+  Is r = seen_node s r ≡ node_of n m (drop at s)
 
-  module _ (no_split : NoLine split_key 2) where
-    pub gives_seat : {l : Items} {known : Bool} {r : Node} → Line seat_key 2 l → known ≡ cut_known n l
-        → r ≡ node_if known 2 l → NodeAt s at n m r
-    gives_seat {l} a =
-        given a.1 (omega arith) (omega arith) (λ z. let c = two l.count _ z in (omega arith, λ _ _. c))
-        (cut_is s l a.1 n 2 seat (is_seat s l) ∙ sym (node_seat n m (drop at s) (sym no_split) (sym a.0)))
+  module _ {l : Items} (fit : ItemsFit s l) where
+    pub gives_split : {known : Bool} {r : Option NodeLine} → Line split_key 2 l → known ≡ cut_known n l
+        → r ≡ node_if known (Cutting (Split (first l) (second l))) l.next → Is r
+    gives_split e = given _ _ (cut_is fit n (drop l.next s) split ∙ sym (node_split n m (drop at s) (sym e)))
 
-    module _ (no_seat : NoLine seat_key 2) where
-      pub gives_loop : {l : Items} {known : Bool} {r : Node} → Line loop_key most_chained l → known ≡ all_below m (numbers l)
-          → r ≡ node_if known 3 l → NodeAt s at n m r
-      gives_loop {l} a =
-          given a.1 (omega arith) (omega arith) (λ _. (a.1.some, λ z _. absurd (z refl)))
-          (loop_is s l a.1 n m ∙ sym (node_loop n m (drop at s) (sym no_split) (sym no_seat) (sym a.0)))
+    module _ (a : NoLine split_key 2) where
+      pub gives_seat : {known : Bool} {r : Option NodeLine} → Line seat_key 2 l → known ≡ cut_known n l
+          → r ≡ node_if known (Cutting (Seat (first l) (second l))) l.next → Is r
+      gives_seat e = given _ _ (cut_is fit n (drop l.next s) seat ∙ sym (node_seat n m (drop at s) (sym a) (sym e)))
 
-      module _ (no_loop : NoLine loop_key most_chained) where
-        pub gives_late : {l : Items} {known : Bool} {r : Node} → Line late_key most_items l → known ≡ late_known n m l
-            → r ≡ node_if known 4 l → NodeAt s at n m r
-        gives_late {l} a =
-            given a.1 (omega arith) (omega arith) (λ _. (a.1.some, λ _ z. absurd (z refl)))
-            (late_is s l a.1 n m a.1.some
-            ∙ sym (node_late n m (drop at s) (sym no_split) (sym no_seat) (sym no_loop) (sym a.0)))
+      module _ (b : NoLine seat_key 2) where
+        pub gives_loop : {known : Bool} {r : Option NodeLine} {v : Numbers} → Line loop_key most_chained l → (v.count ≡ l.count) × (v.values ≡ l.values)
+            → known ≡ all_below m (numbers l)
+            → r ≡ node_if known (Closing (Loop v)) l.next → Is r
+        gives_loop e q =
+            given _ _ (rw (q.0, q.1) (loop_is n m (numbers l) (drop l.next s)) ∙ sym (node_loop n m (drop at s) (sym a) (sym b) (sym e)))
 
-        module _ (no_late : NoLine late_key most_items) where
-          pub gives_clash : {l : Items} {known : Bool} {r : Node} → Line clash_key 2 l → known ≡ clash_known n l
-              → r ≡ node_if known 5 l → NodeAt s at n m r
-          gives_clash {l} a =
-              given a.1 (omega arith) (omega arith) (λ z. let c = two l.count _ z in (omega arith, λ _ _. c))
-              (clash_is s l a.1 n
-              ∙ sym (node_clash n m (drop at s) (sym no_split) (sym no_seat) (sym no_loop) (sym no_late) (sym a.0)))
+        module _ (c : NoLine loop_key most_chained) where
+          pub gives_late : {known : Bool} {r : Option NodeLine} {v : Numbers} → Line late_key most_items l → (v.count ≡ l.count) × (v.values ≡ l.values)
+              → 0 < l.count → known ≡ late_known n m l
+              → r ≡ node_if known (Closing (Late v)) l.next → Is r
+          gives_late e q h =
+              given _ _
+              (rw (q.0, q.1) (late_is fit n (drop l.next s) m h)
+              ∙ sym (node_late n m (drop at s) (sym a) (sym b) (sym c) (sym e)))
 
-          pub gives_none : NoLine clash_key 2 → NodeAt s at n m no_node
-          unfolding seen_node
-          gives_none e =
-              (sym (node_none n m (drop at s) (sym no_split) (sym no_seat) (sym no_loop) (sym no_late) (sym e)), none_fits s)
+          module _ (d : NoLine late_key most_items) where
+            pub gives_clash : {known : Bool} {r : Option NodeLine} → Line clash_key 2 l → known ≡ clash_known n l
+                → r ≡ node_if known (Closing (Clash (first l) (second l))) l.next → Is r
+            gives_clash e =
+                given _ _
+                (clash_is fit n (drop l.next s)
+                ∙ sym (node_clash n m (drop at s) (sym a) (sym b) (sym c) (sym d) (sym e)))
+
+  pub gives_none : NoLine split_key 2 → NoLine seat_key 2 → NoLine loop_key most_chained → NoLine late_key most_items
+      → NoLine clash_key 2 → Is None
+  gives_none a b c d e = sym (node_none n m (drop at s) (sym a) (sym b) (sym c) (sym d) (sym e))
 
 -- ---- what was read is the sheet's
 

@@ -1,61 +1,64 @@
 // Reads the line of a node of a denial's tree: its key, its numbers, and that the sheet has its operations and edges.
 #![tactic(auto)]
 
-ghost use Rattle.std.specs.Prelude.{◌≡◌, ◌≤◌, eqb, ltb, drop, take, get_or};
+ghost use Rattle.std.specs.Prelude.{◌≡◌, ◌≤◌, ◌<◌, ◌↔◌, EachIndex, IfSome, IsTrue, eqb, ltb, drop, take, get_or};
 ghost use Rattle.scan_list.specs.List.{most_items};
 ghost use Rattle.tree_lines.specs.Node.{all_below, both, node_of, seen_node, NodeFits};
 ghost use Rattle.tree_lines.specs.NodeLaws.{node_if};
 
 use scan_list::{Items, MOST_ITEMS, read_list};
 
-// The kinds of line; 0 is none.
-pub const SPLIT: usize = 1;
-
-pub const SEAT: usize = 2;
-
-pub const LOOP: usize = 3;
-
-pub const LATE: usize = 4;
-
-pub const CLASH: usize = 5;
-
 // The most edges of a chain or a walk.
 const MOST_CHAINED: usize = 24;
 
-// The line of a node with its kind and its numbers, 0 past them, and the place after it. Of a line that is none
-// everything is 0.
+// A cut of what is left to an operation: its starts, or its instances, up to a number and above it.
 #[derive(Clone, Copy)]
-pub struct Node {
-    pub kind: usize,
+pub enum Cut {
+    Split(usize, usize),
+    Seat(usize, usize),
+}
+
+// The numbers of a line, 0 past their count.
+// Kept: an array with its count, since memory is fixed.
+#[derive(Clone, Copy)]
+pub struct Numbers {
     pub count: usize,
     pub values: [usize; MOST_ITEMS],
+}
+
+// The edges of a closed walk, an operation and the edges of a chain from it, or two operations.
+#[derive(Clone, Copy)]
+pub enum Leaf {
+    Loop(Numbers),
+    Late(Numbers),
+    Clash(usize, usize),
+}
+
+#[derive(Clone, Copy)]
+pub enum Node {
+    Cutting(Cut),
+    Closing(Leaf),
+}
+
+// A node, and the place after its line.
+#[derive(Clone, Copy)]
+pub struct NodeLine {
+    pub node: Node,
     pub next: usize,
 }
 
-// Whether the numbers from the place `from` on are below a limit.
-fn all_below(values: [usize; MOST_ITEMS], from: usize, count: usize, limit: usize) -> bool
-    requires { count ≤ most_items }
-    ensures { result ≡ all_below limit (drop from (take count values)) }
+// Whether each number is below a limit.
+fn all_below(values: &[usize], limit: usize) -> bool
+    ensures { IsTrue result ↔ EachIndex values.now (λ k. get_or values.now k 0 < limit) }
 {
-    let mut i = from;
-    while i < count {
-        if limit <= values[i] {
-            return false;
-        }
-        i += 1;
-    }
-    true
+    values.iter().all(|value| *value < limit)
 }
 
 // `split=i,v` and `seat=i,k`: two numbers, and the operation is the sheet's.
 fn cut_known(line: Items, ops: usize) -> bool
     ensures { result ≡ both (eqb line.count 2) (ltb (get_or line.values 0 0) ops) }
 {
-    let values = line.values;
-    if line.count == 2 {
-        return values[0] < ops;
-    }
-    false
+    line.count == 2 && line.values[0] < ops
 }
 
 // `loop=` and edges.
@@ -63,80 +66,67 @@ fn loop_known(line: Items, edges: usize) -> bool
     requires { line.count ≤ most_items }
     ensures { result ≡ all_below edges (take line.count line.values) }
 {
-    let values = line.values;
-    all_below(values, 0, line.count, edges)
+    all_below(&line.values[..line.count], edges)
 }
 
 // `late=i` and edges.
 fn late_known(line: Items, ops: usize, edges: usize) -> bool
-    requires { line.count ≤ most_items }
+    requires { (0 < line.count) × (line.count ≤ most_items) }
     ensures { result ≡ both (ltb (get_or line.values 0 0) ops) (all_below edges (drop 1 (take line.count line.values))) }
 {
-    let values = line.values;
-    if values[0] < ops {
-        return all_below(values, 1, line.count, edges);
-    }
-    false
+    line.values[0] < ops && all_below(&line.values[1..line.count], edges)
 }
 
 // `clash=i,j`: two operations.
 fn clash_known(line: Items, ops: usize) -> bool
     ensures { result ≡ both (eqb line.count 2) (both (ltb (get_or line.values 0 0) ops) (ltb (get_or line.values 1 0) ops)) }
 {
-    let values = line.values;
-    if line.count == 2 {
-        if values[0] < ops {
-            return values[1] < ops;
-        }
-    }
-    false
+    let i = line.values[0];
+    let j = line.values[1];
+    line.count == 2 && i < ops && j < ops
 }
 
-// A node of this kind, or none.
-fn node_if(known: bool, kind: usize, line: Items) -> Node
-    ensures { result ≡ node_if known kind line }
+// A node where it is known.
+fn node_if(known: bool, node: Node, next: usize) -> Option<NodeLine>
+    ensures { result ≡ node_if known node next }
+{
+    known.then_some(NodeLine { node, next })
+}
+
+fn numbers_of(line: Items) -> Numbers
+    ensures { (result.count ≡ line.count) × (result.values ≡ line.values) }
 {
     let values = line.values;
-    if known {
-        return Node {
-            kind,
-            count: line.count,
-            values,
-            next: line.next,
-        };
-    }
-    Node {
-        kind: 0,
-        count: 0,
-        values: [0; MOST_ITEMS],
-        next: 0,
+    Numbers {
+        count: line.count,
+        values,
     }
 }
 
 // The node at `at`, of a sheet with this many operations and edges.
-pub fn read_node(s: &[u8], at: usize, ops: usize, edges: usize) -> Node
+pub fn read_node(s: &[u8], at: usize, ops: usize, edges: usize) -> Option<NodeLine>
     ensures result_value { seen_node s.now result ≡ node_of ops edges (drop at s.now) }
-    ensures node_fits { NodeFits s.now result }
+    ensures node_fits { IfSome result (NodeFits s.now) }
 {
-    if let Some(split) = read_list(s, at, b"split=", 2) {
-        return node_if(cut_known(split, ops), SPLIT, split);
+    if let Some(line) = read_list(s, at, b"split=", 2) {
+        let cut = Cut::Split(line.values[0], line.values[1]);
+        return node_if(cut_known(line, ops), Node::Cutting(cut), line.next);
     }
-    if let Some(seat) = read_list(s, at, b"seat=", 2) {
-        return node_if(cut_known(seat, ops), SEAT, seat);
+    if let Some(line) = read_list(s, at, b"seat=", 2) {
+        let cut = Cut::Seat(line.values[0], line.values[1]);
+        return node_if(cut_known(line, ops), Node::Cutting(cut), line.next);
     }
-    if let Some(walk) = read_list(s, at, b"loop=", MOST_CHAINED) {
-        return node_if(loop_known(walk, edges), LOOP, walk);
+    if let Some(line) = read_list(s, at, b"loop=", MOST_CHAINED) {
+        let leaf = Leaf::Loop(numbers_of(line));
+        return node_if(loop_known(line, edges), Node::Closing(leaf), line.next);
     }
-    if let Some(chain) = read_list(s, at, b"late=", MOST_CHAINED + 1) {
-        return node_if(late_known(chain, ops, edges), LATE, chain);
+    if let Some(line) = read_list(s, at, b"late=", MOST_CHAINED + 1) {
+        let leaf = Leaf::Late(numbers_of(line));
+        return node_if(late_known(line, ops, edges), Node::Closing(leaf), line.next);
     }
-    if let Some(pair) = read_list(s, at, b"clash=", 2) {
-        return node_if(clash_known(pair, ops), CLASH, pair);
+    if let Some(line) = read_list(s, at, b"clash=", 2) {
+        let leaf = Leaf::Clash(line.values[0], line.values[1]);
+        return node_if(clash_known(line, ops), Node::Closing(leaf), line.next);
     }
-    Node {
-        kind: 0,
-        count: 0,
-        values: [0; MOST_ITEMS],
-        next: 0,
-    }
+    None
 }

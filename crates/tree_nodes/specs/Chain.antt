@@ -1,7 +1,7 @@
 -- A chain, edge by edge, as it is walked. Assumes nothing.
-use Rattle.std.specs.Prelude.{◌≡◌, Bool, ℕ, suc, ◌+◌, ◌*◌, ◌≤◌, ◌<◌, length, drop, take, get_or, ℤ, ◌+ℤ◌}
+use Rattle.std.specs.Prelude.{◌≡◌, Bool, ℕ, ◌+◌, ◌*◌, ◌<◌, length, drop, get_or, ℤ, ◌+ℤ◌, Option, None, Some, IfSome, MatchOption}
 use Rattle.std.proofs.Math.Path.{refl, sym, ap, subst}
-use Rattle.std.proofs.Common.{◌∙◌, arith, add-one, drop_of_length-le, drop-cons, get_or-take, length-take-le}
+use Rattle.std.proofs.Common.{◌∙◌, arith, add-one, drop-cons}
 use Rattle.std.proofs.Math.Bool.{true, false, cond}
 use mathlib.Core.List.{List, [], ◌∷◌}
 use Rattle.std.proofs.Math.Dec.{eqb}
@@ -33,12 +33,16 @@ pub record Walking (p n : ℕ) (w : Walked) : Type 0 where
   pub end : w.end < n
   pub sum : Within (most_weight * p) w.sum
 
--- ok exactly if the edges ks are a chain from i, and then its end and its sum
+-- the edges ks are no chain from i
+abbrev pub NoChain : Graph → ℕ → List ℕ → Type 0
+NoChain g i ks = (j : ℕ) → Chain g i ks j → ⊥
+
+-- they are one, with this end and this sum
 pub record Followed (g : Graph) (L i : ℕ) (ks : List ℕ) (w : Walked) : Type 0 where
   pub near : Walking most_items g.ops w
-  pub chain : w.ok ≡ true → Chain g i ks w.end
-  pub sum : w.ok ≡ true → w.sum ≡ sum g L ks
-  pub only : (j : ℕ) → Chain g i ks j → (w.ok ≡ true) × (w.end ≡ j)
+  pub chain : Chain g i ks w.end
+  pub sum : w.sum ≡ sum g L ks
+  pub only : (j : ℕ) → Chain g i ks j → w.end ≡ j
 
 -- ---- the walk
 
@@ -52,8 +56,15 @@ unfoldable pub walk_from : Graph → List ℤ → ℕ → ℤ → List ℕ → W
 walk_from g ts i z [] = walk i z
 walk_from g ts i z (k ∷ ks) = cond (eqb (edge_at g k).from i) (walk_from g ts (edge_at g k).to (z +ℤ at ts k) ks) broken
 
-unfoldable pub seen_walk : Walked → Walk
-seen_walk w = cond w.ok (walk w.end w.sum) broken
+abbrev pub seen_walk : Option Walked → Walk
+seen_walk (Some w) = walk w.end w.sum
+seen_walk None = broken
+
+-- p edges were walked: what is left leads from where they end to where the whole leads from its start
+pub record Reached (g : Graph) (ts : List ℤ) (start : ℕ) (es : List ℕ) (p end : ℕ) (z : ℤ) : Type 0 where
+  pub below : Below g.edge_count (drop p es)
+  pub same : walk_from g ts end z (drop p es) ≡ walk_from g ts start (pos 0) es
+  pub walking : Walking p g.ops (record { end = end; sum = z })
 
 -- ---- an edge at a time
 
@@ -71,19 +82,9 @@ module _ (g : Graph) (ts : List ℤ) (i : ℕ) (z : ℤ) where
   unfolding walk_from
   walk_done e = rw e
 
--- the numbers of a line from the place p on, begun with the one there
-module _ (count p : ℕ) (vs : List ℕ) (l : count ≤ length vs) where
-  pub front : p < count → drop p (take count vs) ≡ get_or vs p 0 ∷ drop (p + 1) (take count vs)
-  front h =
-      let q = length-take-le count vs l in
-      let rest : ℕ → List ℕ = λ x. x ∷ drop (suc p) (take count vs) in
-      rw add-one (drop-cons (take count vs) p 0 (omega arith) ∙ ap rest (get_or-take count vs p 0 h))
-
-  -- none are left
-  pub past : count ≤ p → drop p (take count vs) ≡ []
-  past h =
-      let q : length (take count vs) ≤ p = omega (arith, length-take-le count vs l) in
-      drop_of_length-le (take count vs) q
+-- the edges from the place p on, begun with the one there
+pub front : (p : ℕ) (vs : List ℕ) → p < length vs → drop p vs ≡ get_or vs p 0 ∷ drop (p + 1) vs
+front p vs h = rw add-one (drop-cons vs p 0 h)
 
 module _ {m k : ℕ} {ks vs : List ℕ} (v : vs ≡ k ∷ ks) (b : Below m vs) where
   pub below_first : k < m
@@ -137,23 +138,18 @@ module _ {g : Graph} {L : ℕ} {ts : List ℤ} (t : Totals g L ts) where
       rw (eq-eqb (edge_at g k).from (edge_at g k).from refl)
       (chain_walk (z +ℤ at ts k) c ∙ ap (walk j) (regroup z k ks l))
 
-  pub followed : {i : ℕ} {ks : List ℕ} {w : Walked} → Below g.edge_count ks
-      → seen_walk w ≡ walk_from g ts i (pos 0) ks → Walking most_items g.ops w → Followed g L i ks w
-  unfolding seen_walk
-  followed {i} {ks} {w} b e n = record {
-    near = n;
-    chain = λ y. (found y).0;
-    sum = λ y. (found y).1 ∙ +ℤ_idl (sum g L ks);
-    only = λ j c. go w.ok refl j (e ∙ chain_walk (pos 0) c);
-  }
-    where
-      found : w.ok ≡ true → Chain g i ks w.end × (w.sum ≡ pos 0 +ℤ sum g L ks)
-      found y = walk_chain i (pos 0) ks w.end w.sum b (sym (rw y at e))
-
-      go : (f : Bool) → w.ok ≡ f → (j : ℕ)
-          → cond w.ok (walk w.end w.sum) broken ≡ walk j (pos 0 +ℤ sum g L ks) → (w.ok ≡ true) × (w.end ≡ j)
-      go true y j q = (y, (walk_eq (rw y at q)).0)
-      go false y j q = absurd (no_walk (rw y at q))
+  pub followed : (i : ℕ) (ks : List ℕ) (r : Option Walked) → Below g.edge_count ks
+      → seen_walk r ≡ walk_from g ts i (pos 0) ks → IfSome r (Walking most_items g.ops)
+      → MatchOption r (NoChain g i ks) (Followed g L i ks)
+  followed i ks None b e n = λ j c. no_walk (e ∙ chain_walk (pos 0) c)
+  followed i ks (Some w) b e n =
+      let f = walk_chain i (pos 0) ks w.end w.sum b (sym e) in
+      record {
+        near = n;
+        chain = f.0;
+        sum = f.1 ∙ +ℤ_idl (sum g L ks);
+        only = λ j c. (walk_eq (e ∙ chain_walk (pos 0) c)).0;
+      }
 
 -- the totals of a graph in range are near 0
 pub totals_near : {g : Graph} {L : ℕ} {ts : List ℤ} → InRange g → Interval L → Totals g L ts

@@ -1,11 +1,11 @@
 -- From the tests to the leaves. Assumes nothing.
-use Rattle.std.specs.Prelude.{◌≡◌, refl, Bool, true, false, not, List, ◌∷◌, ℕ, ◌<◌, length, drop, get_or, ℤ, pos, ◌+ℤ◌, ◌<ℤ◌}
-use Rattle.std.proofs.Common.{sym, ◌∙◌, arith, eq-eqb, ne_eqb}
+use Rattle.std.specs.Prelude.{◌≡◌, refl, Bool, not, List, ◌∷◌, ℕ, ◌<◌, length, ℤ, pos, ◌+ℤ◌, ◌<ℤ◌}
+use Rattle.std.proofs.Common.{sym, arith}
 use Rattle.std.proofs.Math.Path.{subst}
 use Rattle.std.proofs.Math.Decide.{dec_lt}
 use Rattle.std.specs.Int.Signed.{lt_z}
 use Rattle.std.proofs.lemmas.Bool.{not-true, not-false}
-use Rattle.laws.specs.Z.{zed, true_false, lt_z_true, lt_z_false}
+use Rattle.laws.specs.Z.{zed, lt_z_true, lt_z_false}
 use Rattle.laws.specs.Says.{Says}
 use Rattle.laws.specs.Tests.{last}
 use Rattle.dependence.specs.declared.Graph.{Graph}
@@ -14,15 +14,12 @@ use Rattle.dependence.specs.Rules.{Chain, step, BadWalk}
 use Rattle.sheet.specs.declared.Sheet.{Sheet}
 use Rattle.sheet.specs.Sheet.{type_of, graph_of}
 use Rattle.plan.specs.Rules as plan
-use Rattle.denial.specs.Tree.{Below, Leaf, loop, late, clash, LeafKnown}
 use Rattle.denial.specs.Box.{Box}
 use Rattle.denial.specs.BoxLaws.{which}
-use Rattle.denial.specs.Passes.{Pinned, Late, Clash, two, never, barred, So}
+use Rattle.denial.specs.Passes.{Pinned, Late, Clash, two, never, barred}
 use Rattle.denial.specs.At.{Never, rules_at}
-use Rattle.tree_lines.specs.declared.Node.{Node}
-use Rattle.tree_lines.specs.Node.{leaf_seen, numbers_of}
 use Rattle.tree_nodes.specs.declared.chain.Walked.{Walked}
-use Rattle.tree_nodes.specs.Chain.{Followed}
+use Rattle.tree_nodes.specs.Chain.{NoChain, Followed}
 
 -- a signed test
 pub less_says : (a b : ℤ) → Says (a <ℤ b) (lt_z a b)
@@ -33,49 +30,48 @@ less_says a b = record { yes = lt_z_true a b; no = λ e h. omega (arith, zed, h,
 chain_head : {g : Graph} {i j k : ℕ} {ks : List ℕ} → Chain g i (k ∷ ks) j → i ≡ (edge_at g k).from
 chain_head (step l c) = refl
 
--- edges that were followed from the beginning of the first one
-module _ {g : Graph} {L k : ℕ} {ks vs : List ℕ} {w : Walked} (v : vs ≡ k ∷ ks)
-    (f : Followed g L (edge_at g k).from vs w) where
+-- edges that begin with the first one
+module _ {g : Graph} {L k : ℕ} {ks vs : List ℕ} (v : vs ≡ k ∷ ks) where
   closed : BadWalk g L vs → Chain g (edge_at g k).from vs (edge_at g k).from
   closed b =
       let c = subst (λ (x : List ℕ). Chain g b.at x b.at) v b.chain in
       subst (λ (x : ℕ). Chain g x vs x) (chain_head c) b.chain
 
-  pub loop_not : w.ok ≡ false → BadWalk g L vs → ⊥
-  loop_not n b = true_false (sym (f.only _ (closed b)).0 ∙ n)
+  pub loop_not : NoChain g (edge_at g k).from vs → BadWalk g L vs → ⊥
+  loop_not n b = n _ (closed b)
 
-  pub loop_open : (w.end ≡ (edge_at g k).from → ⊥) → BadWalk g L vs → ⊥
-  loop_open n b = n (f.only _ (closed b)).1
+  module _ {w : Walked} (f : Followed g L (edge_at g k).from vs w) where
+    pub loop_open : (w.end ≡ (edge_at g k).from → ⊥) → BadWalk g L vs → ⊥
+    loop_open n b = n (f.only _ (closed b))
 
-  pub loop_says : {r : Bool} → w.ok ≡ true → w.end ≡ (edge_at g k).from → Says (pos 0 <ℤ w.sum) r
-      → Says (BadWalk g L vs) r
-  loop_says y q s = last s
-      (λ h. record {
-        at = (edge_at g k).from;
-        chain = subst (Chain g (edge_at g k).from vs) q (f.chain y);
-        non_empty = subst (λ (x : List ℕ). 0 < length x) (sym v) (omega arith);
-        positive = subst (λ (z : ℤ). pos 0 <ℤ z) (f.sum y) h;
-      })
-      (λ b. subst (λ (z : ℤ). pos 0 <ℤ z) (sym (f.sum y)) b.positive)
+    pub loop_says : {r : Bool} → w.end ≡ (edge_at g k).from → Says (pos 0 <ℤ w.sum) r → Says (BadWalk g L vs) r
+    loop_says q s = last s
+        (λ h. record {
+          at = (edge_at g k).from;
+          chain = subst (Chain g (edge_at g k).from vs) q f.chain;
+          non_empty = subst (λ (x : List ℕ). 0 < length x) (sym v) (omega arith);
+          positive = subst (λ (z : ℤ). pos 0 <ℤ z) f.sum h;
+        })
+        (λ b. subst (λ (z : ℤ). pos 0 <ℤ z) (sym f.sum) b.positive)
 
 -- ---- `late=`
 
-module _ (s : Sheet) {L i : ℕ} (b : Box) {ks : List ℕ} {w : Walked} (f : Followed (graph_of s) L i ks w) where
-  pub late_not : w.ok ≡ false → Late (rules_at s L) b i ks → ⊥
+module _ (s : Sheet) (L : ℕ) {i : ℕ} (b : Box) {ks : List ℕ} where
+  pub late_not : NoChain (graph_of s) i ks → Late (rules_at s L) b i ks → ⊥
   unfolding rules_at
-  late_not n l = true_false (sym (f.only l.end l.chain).0 ∙ n)
+  late_not n l = n l.end l.chain
 
-  pub late_says : {r : Bool} → w.ok ≡ true → Says (b.highest w.end <ℤ (pos (b.lowest i) +ℤ w.sum)) r
-      → Says (Late (rules_at s L) b i ks) r
+  pub late_says : {w : Walked} → Followed (graph_of s) L i ks w → {r : Bool}
+      → Says (b.highest w.end <ℤ (pos (b.lowest i) +ℤ w.sum)) r → Says (Late (rules_at s L) b i ks) r
   unfolding rules_at
-  late_says y says = last says
+  late_says {w} f says = last says
       (λ h. record {
         end = w.end;
-        chain = f.chain y;
-        exceeds = subst (λ (z : ℤ). b.highest w.end <ℤ (pos (b.lowest i) +ℤ z)) (f.sum y) h;
+        chain = f.chain;
+        exceeds = subst (λ (z : ℤ). b.highest w.end <ℤ (pos (b.lowest i) +ℤ z)) f.sum h;
       })
-      (λ l. subst (λ (x : ℕ). b.highest x <ℤ (pos (b.lowest i) +ℤ w.sum)) (sym (f.only l.end l.chain).1)
-      (subst (λ (z : ℤ). b.highest l.end <ℤ (pos (b.lowest i) +ℤ z)) (sym (f.sum y)) l.exceeds))
+      (λ l. subst (λ (x : ℕ). b.highest x <ℤ (pos (b.lowest i) +ℤ w.sum)) (sym (f.only l.end l.chain))
+      (subst (λ (z : ℤ). b.highest l.end <ℤ (pos (b.lowest i) +ℤ z)) (sym f.sum) l.exceeds))
 
 -- ---- `clash=`
 
@@ -131,52 +127,3 @@ own_says s L b {i} t r e h = record {
   yes = λ y. never_clash s L b e (never_of s L i t (h.no (not-true r y)));
   no = λ n c. let v = clash_never s L b e c in omega (arith, v.above, (h.yes (not-false r n)).fits v.limited);
 }
-
--- ---- a node's numbers, by its kind
-
-loop_seen : (r : Node) → r.kind ≡ 3 → leaf_seen r ≡ loop (numbers_of r)
-unfolding leaf_seen
-loop_seen r e = rw (eq-eqb r.kind 3 e)
-
-late_seen : (r : Node) → (r.kind ≡ 3 → ⊥) → r.kind ≡ 4
-    → leaf_seen r ≡ late (get_or r.values 0 0) (drop 1 (numbers_of r))
-unfolding leaf_seen
-late_seen r a e = rw (ne_eqb r.kind 3 a, eq-eqb r.kind 4 e)
-
-clash_seen : (r : Node) → (r.kind ≡ 3 → ⊥) → (r.kind ≡ 4 → ⊥)
-    → leaf_seen r ≡ clash (get_or r.values 0 0) (get_or r.values 1 0)
-unfolding leaf_seen
-clash_seen r a e = rw (ne_eqb r.kind 3 a, ne_eqb r.kind 4 e)
-
-module _ (n m : ℕ) (r : Node) (k : LeafKnown n m (leaf_seen r)) where
-  pub loop_known : r.kind ≡ 3 → Below m (numbers_of r)
-  unfolding LeafKnown
-  loop_known e = subst (LeafKnown n m) (loop_seen r e) k
-
-  pub late_known_lem : (r.kind ≡ 3 → ⊥) → r.kind ≡ 4 → (get_or r.values 0 0 < n) × Below m (drop 1 (numbers_of r))
-  unfolding LeafKnown
-  late_known_lem a e = subst (LeafKnown n m) (late_seen r a e) k
-
-  pub clash_known_lem : (r.kind ≡ 3 → ⊥) → (r.kind ≡ 4 → ⊥) → (get_or r.values 0 0 < n) × (get_or r.values 1 0 < n)
-  unfolding LeafKnown
-  clash_known_lem a e = subst (LeafKnown n m) (clash_seen r a e) k
-
-module _ (s : Sheet) (L : ℕ) (b : Box) (r : Node) {x : Bool} where
-  so : {y : Leaf} → leaf_seen r ≡ y → Says (So (rules_at s L) b y) x → Says (So (rules_at s L) b (leaf_seen r)) x
-  so e h = subst (λ (z : Leaf). Says (So (rules_at s L) b z) x) (sym e) h
-
-  pub so_loop : r.kind ≡ 3 → Says (BadWalk (graph_of s) L (numbers_of r)) x → Says (So (rules_at s L) b (leaf_seen r)) x
-  unfolding So rules_at
-  so_loop e h = so (loop_seen r e) h
-
-  pub so_late : (r.kind ≡ 3 → ⊥) → r.kind ≡ 4
-      → Says (Late (rules_at s L) b (get_or r.values 0 0) (drop 1 (numbers_of r))) x
-      → Says (So (rules_at s L) b (leaf_seen r)) x
-  unfolding So
-  so_late a e h = so (late_seen r a e) h
-
-  pub so_clash : (r.kind ≡ 3 → ⊥) → (r.kind ≡ 4 → ⊥)
-      → Says (Clash (rules_at s L) b (get_or r.values 0 0) (get_or r.values 1 0)) x
-      → Says (So (rules_at s L) b (leaf_seen r)) x
-  unfolding So
-  so_clash a e h = so (clash_seen r a e) h
