@@ -1,5 +1,5 @@
 -- An answer as the code meets it: one law for each way that its reading and its judgement can go. Assumes nothing.
-use Rattle.std.specs.Prelude.{ℕ, ◌+◌, ◌≤◌, ◌<◌, min, ◌≡◌, refl, true, false, pos, List, [], ◌∷◌, length, drop, take}
+use Rattle.std.specs.Prelude.{ℕ, ◌+◌, ◌≤◌, ◌<◌, min, ◌≡◌, refl, true, false, pos, List, [], ◌∷◌, length, drop, take, Ok, Err, None, Some}
 use Rattle.std.proofs.Common.{arith, sym, subst, ◌∙◌, length-drop, drop_of_length-le, length-take-le, get_or-take, eq-eqb, ne_eqb}
 use Rattle.std.proofs.Math.Decide.{dec_lt}
 use Rattle.std.proofs.Math.Path.{ap}
@@ -19,11 +19,11 @@ use Rattle.verify.specs.Broken as checked
 use Rattle.verify.specs.BrokenLaws.{plan_unbroken}
 use Rattle.denial.specs.Tree.{Tree}
 use Rattle.denial.specs.At.{rules_at, root_at}
-use Rattle.denial.specs.Fault.{TreeFault}
-use Rattle.denial.specs.FaultLaws.{false_fails, fault_none, fault_first}
-use Rattle.tree_judge.specs.declared.Verdict.{Verdict}
+use Rattle.denial.specs.FaultLaws.{false_fails}
+use Rattle.tree_judge.specs.declared.Judged as tree
+use Rattle.tree_judge.specs.declared.Unread.{Unread}
 use Rattle.tree_judge.specs.Reading.{most_cuts, TreeRead, read, tree_from}
-use Rattle.tree_judge.specs.Verdicts.{RootJudged, Took, stopped, took}
+use Rattle.tree_judge.specs.Verdicts.{Fault, fault_none, fault_some, fault_is, RootJudged, Took, stopped, took}
 use Rattle.judge.specs.declared.Examined.{Examined}
 use Rattle.judge.specs.Text.{AnswerRead, plan, denial, unreadable, denies, whole_tree}
 use Rattle.judge.specs.Text.{denial_of, plan_for, answer_read, answer_of}
@@ -135,54 +135,54 @@ first_one (checked.first b) n = b
 
 -- ---- a tree
 
-module _ {s : Sheet} {L used : ℕ} {bs : List ℕ} {v : Verdict} (some : SomeInterval s L used) where
+module _ {s : Sheet} {L used : ℕ} {bs : List ℕ} (some : SomeInterval s L used) where
   -- no tree
-  pub no_tree : {y : TreeRead} {r : Examined} → RootJudged s used bs first_at y v → v.ok ≡ false
-      → r ≡ unreadable_at v.line → Examines s (whole_tree L y) r
-  no_tree j f = stops (ap (whole_tree L) (stopped j f).0)
+  pub no_tree : {y : TreeRead} {u : Unread} {r : Examined} → RootJudged s used bs first_at y (Err u)
+      → r ≡ unreadable_at u.line → Examines s (whole_tree L y) r
+  no_tree j = stops (ap (whole_tree L) (stopped j))
 
-  -- something after it
-  pub more_after : {y : TreeRead} {r : Examined} → RootJudged s used bs first_at y v → v.ok ≡ true → v.next < length bs
-      → r ≡ unreadable_at v.line → Examines s (whole_tree L y) r
-  more_after j f h = stops (ap (whole_tree L) (took j f).is ∙ followed (took j f).tree (drop v.next bs) refl)
-    where
-      followed : (t : Tree) (rest : List ℕ) → drop v.next bs ≡ rest
-          → whole_tree L (read t v.line rest) ≡ unreadable v.line
-      followed t [] e = absurd (omega (arith, ap length e, length-drop v.next bs))
-      followed t (b ∷ rest) e = refl
-
-  module _ {y : TreeRead} (j : RootJudged s used bs first_at y v) (f : v.ok ≡ true) (h : length bs ≤ v.next) where
+  module _ {y : TreeRead} {v : tree.Judged} (j : RootJudged s used bs first_at y (Ok v)) where
     tree_of : Took (rules_at s used) (root_at s) bs first_at y v
-    tree_of = took j f
+    tree_of = took j
 
-    is_denial : whole_tree L y ≡ denial L tree_of.tree
-    is_denial = ap (whole_tree L) tree_of.is ∙ ended (drop v.next bs) (drop_of_length-le bs h)
+    -- something after it
+    pub more_after : v.next < length bs → {r : Examined} → r ≡ unreadable_at v.line → Examines s (whole_tree L y) r
+    more_after h = stops (ap (whole_tree L) tree_of.is ∙ followed tree_of.tree (drop v.next bs) refl)
       where
-        ended : (rest : List ℕ) → rest ≡ []
-            → whole_tree L (read tree_of.tree v.line rest) ≡ denial L tree_of.tree
-        ended rest e = rw e
+        followed : (t : Tree) (rest : List ℕ) → drop v.next bs ≡ rest
+            → whole_tree L (read t v.line rest) ≡ unreadable v.line
+        followed t [] e = absurd (omega (arith, ap length e, length-drop v.next bs))
+        followed t (b ∷ rest) e = refl
 
-    pub tree_interval : (Interval s L → ⊥) → Examines s (whole_tree L y) (record { answer = 4; line = 2 })
-    tree_interval n = rw is_denial (record { judged = at_no n refl; fault = at_no n refl })
+    module _ (h : length bs ≤ v.next) where
+      is_denial : whole_tree L y ≡ denial L tree_of.tree
+      is_denial = ap (whole_tree L) tree_of.is ∙ ended (drop v.next bs) (drop_of_length-le bs h)
+        where
+          ended : (rest : List ℕ) → rest ≡ []
+              → whole_tree L (read tree_of.tree v.line rest) ≡ denial L tree_of.tree
+          ended rest e = rw e
 
-    module _ (i : Interval s L) where
-      fault_here : TreeFault (rules_at s L) (root_at s) tree_of.tree first_at v.fault
-      fault_here =
-          subst (λ (l : ℕ). TreeFault (rules_at s l) (root_at s) tree_of.tree first_at v.fault) (some.same i)
-          tree_of.fault
+      pub tree_interval : (Interval s L → ⊥) → Examines s (whole_tree L y) (record { answer = 4; line = 2 })
+      tree_interval n = rw is_denial (record { judged = at_no n refl; fault = at_no n refl })
 
-      pub tree_passes : v.fault ≡ 0 → Examines s (whole_tree L y) (record { answer = 0; line = 0 })
-      tree_passes z =
-          let q = subst (TreeFault (rules_at s L) (root_at s) tree_of.tree first_at) z fault_here in
-          rw is_denial (record {
-            judged = at_yes i (at_yes (fault_none (omega arith) q refl) refl);
-            fault = at_yes i q;
-          })
+      module _ (i : Interval s L) where
+        fault_here : Fault (rules_at s L) (root_at s) tree_of.tree first_at v.fault
+        fault_here =
+            subst (λ (l : ℕ). Fault (rules_at s l) (root_at s) tree_of.tree first_at v.fault) (some.same i)
+            tree_of.fault
 
-      pub tree_fails : (v.fault ≡ 0 → ⊥) → Examines s (whole_tree L y) (record { answer = 19; line = v.fault })
-      tree_fails n =
-          let q = fault_first fault_here n in
-          rw is_denial (record { judged = at_yes i (at_no (false_fails q) refl); fault = at_yes i fault_here })
+        pub tree_passes : v.fault ≡ None → Examines s (whole_tree L y) (record { answer = 0; line = 0 })
+        tree_passes z =
+            let q = subst (Fault (rules_at s L) (root_at s) tree_of.tree first_at) z fault_here in
+            rw is_denial (record { judged = at_yes i (at_yes (fault_none q) refl); fault = at_yes i (fault_is q) })
+
+        pub tree_fails : {n : ℕ} → v.fault ≡ Some n → Examines s (whole_tree L y) (record { answer = 19; line = n })
+        tree_fails z =
+            let q = subst (Fault (rules_at s L) (root_at s) tree_of.tree first_at) z fault_here in
+            rw is_denial (record {
+              judged = at_yes i (at_no (false_fails (fault_some q)) refl);
+              fault = at_yes i (fault_is q);
+            })
 
 -- ---- a denial
 

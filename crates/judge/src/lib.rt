@@ -113,12 +113,12 @@ fn tree_examined(sheet: Sheet, text: &[u8], at: usize, interval: usize) -> Exami
     ensures { Examines sheet (whole_tree interval (tree_from sheet.op_count sheet.edge_count most_cuts first_at (drop at text.now))) result }
 {
     let used = some_interval(sheet, interval);
-    let found = tree_judge::judge_from(text, at, sheet, used, FIRST_AT);
-    if !found.ok {
-        return unreadable(found.line);
-    }
-    if found.next < text.len() {
-        return unreadable(found.line);
+    let tree = match tree_judge::judge_from(text, at, sheet, used, FIRST_AT) {
+        Ok(tree) => tree,
+        Err(unread) => return unreadable(unread.line),
+    };
+    if tree.next < text.len() {
+        return unreadable(tree.line);
     }
     if questions::asked(sheet, interval) != 0 {
         return Examined {
@@ -126,13 +126,13 @@ fn tree_examined(sheet: Sheet, text: &[u8], at: usize, interval: usize) -> Exami
             line: INTERVAL_LINE,
         };
     }
-    if found.fault != 0 {
-        return Examined {
+    match tree.fault {
+        Some(line) => Examined {
             answer: NOT_SO,
-            line: found.fault,
-        };
+            line,
+        },
+        None => Examined { answer: 0, line: 0 },
     }
-    Examined { answer: 0, line: 0 }
 }
 
 // A denial; bytes that do not begin as one are at fault in the line `other`.
