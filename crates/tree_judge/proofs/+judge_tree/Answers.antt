@@ -4,6 +4,7 @@ use Rattle.std.proofs.lemmas.Result.{err_from_is_err_and}
 use Rattle.sheet.specs.Facts.{ops_most}
 use Rattle.denial.specs.At.{rules_at}
 use Rattle.tree_boxes.specs.Bounds.{box_of}
+use Rattle.tree_nodes.specs.Counted.{counted}
 use Rattle.tree_judge.specs.Verdicts.{judges_too_many, judges_malformed, leaf_known, judges_leaf, judges_deep}
 use Rattle.tree_judge.specs.Verdicts.{cut_below, cut_known_lem, judges_first, first_line, judges_second, judges_both}
 use Rattle.tree_judge.proofs.+judge_tree.Goals as goal
@@ -21,10 +22,15 @@ returns-in_default t c =
 pub leaf_so-so-requires : goal.leaf_so-so-requires
 leaf_so-so-requires t c =
     let p = c.requires in
-    let f = c.in-Some.ensures.node_fits in
-    (p.0, p.1, p.2, rw c.in-Closing.is at f.node, leaf_known (rules_at c.args.sheet c.args.interval) (box_of c.args.b) c.args.s.now c.args.sheet.op_count c.args.sheet.edge_count
-    c.args.depth c.args.line (drop c.args.at c.args.s.now) (omega (arith, c.if-line-gt-MOST_LINES.false)) c.in-Closing.leaf c.in-Some.found.next
-    (rw c.in-Closing.is at c.in-Some.ensures.result_value))
+    let f = c.in-Some.ensures.node_fits in (
+      p.0,
+      p.1,
+      p.2,
+      counted c.in-Closing.leaf (rw c.in-Closing.is at f.node),
+      leaf_known (rules_at c.args.sheet c.args.interval) (box_of c.args.b) c.args.s.now c.args.sheet.op_count c.args.sheet.edge_count
+          c.args.depth c.args.line (drop c.args.at c.args.s.now) (omega (arith, c.if-line-gt-MOST_LINES.false)) c.in-Closing.leaf c.in-Some.found.next
+          (rw c.in-Closing.is at c.in-Some.ensures.result_value),
+    )
 
 pub returns-in-Closing : goal.returns-in-Closing
 returns-in-Closing t c =
@@ -42,18 +48,22 @@ returns-then-depth-eq0 t c =
 pub up_to-below-requires : goal.up_to-below-requires
 up_to-below-requires t c =
     let p = c.requires in
-    let f = c.in-Some.ensures.node_fits in
-    (cut_below (ops_most p.0) c.in-Cutting.cut (cut_known_lem (rules_at c.args.sheet c.args.interval) (box_of c.args.b) c.args.s.now c.args.sheet.op_count c.args.sheet.edge_count
-    c.args.depth c.args.line (drop c.args.at c.args.s.now) (omega (arith, c.if-line-gt-MOST_LINES.false)) c.in-Cutting.cut c.in-Some.found.next
-    (rw c.in-Cutting.is at c.in-Some.ensures.result_value)) (rw c.in-Cutting.is at f.node), p.2)
+    let f = c.in-Some.ensures.node_fits in (
+      cut_below (ops_most p.0) c.in-Cutting.cut (cut_known_lem (rules_at c.args.sheet c.args.interval) (box_of c.args.b) c.args.s.now c.args.sheet.op_count c.args.sheet.edge_count
+          c.args.depth c.args.line (drop c.args.at c.args.s.now) (omega (arith, c.if-line-gt-MOST_LINES.false)) c.in-Cutting.cut c.in-Some.found.next
+          (rw c.in-Cutting.is at c.in-Some.ensures.result_value)) (rw c.in-Cutting.is at f.node),
+      p.2,
+    )
 
 pub above-rest-requires : goal.above-rest-requires
 above-rest-requires t c =
     let p = c.requires in
-    let f = c.in-Some.ensures.node_fits in
-    (cut_below (ops_most p.0) c.in-Cutting.cut (cut_known_lem (rules_at c.args.sheet c.args.interval) (box_of c.args.b) c.args.s.now c.args.sheet.op_count c.args.sheet.edge_count
-    c.args.depth c.args.line (drop c.args.at c.args.s.now) (omega (arith, c.if-line-gt-MOST_LINES.false)) c.in-Cutting.cut c.in-Some.found.next
-    (rw c.in-Cutting.is at c.in-Some.ensures.result_value)) (rw c.in-Cutting.is at f.node), p.2)
+    let f = c.in-Some.ensures.node_fits in (
+      cut_below (ops_most p.0) c.in-Cutting.cut (cut_known_lem (rules_at c.args.sheet c.args.interval) (box_of c.args.b) c.args.s.now c.args.sheet.op_count c.args.sheet.edge_count
+          c.args.depth c.args.line (drop c.args.at c.args.s.now) (omega (arith, c.if-line-gt-MOST_LINES.false)) c.in-Cutting.cut c.in-Some.found.next
+          (rw c.in-Cutting.is at c.in-Some.ensures.result_value)) (rw c.in-Cutting.is at f.node),
+      p.2,
+    )
 
 pub returns-in_err-first : goal.returns-in_err-first
 returns-in_err-first t c =
