@@ -8,10 +8,11 @@ ghost use Rattle.sheet.specs.Sheet.{InRange, Interval, graph_of};
 ghost use Rattle.denial.specs.Tree.{Below, LeafKnown};
 ghost use Rattle.denial.specs.Passes.{Pinned, Late, Clash, So, Allowed};
 ghost use Rattle.denial.specs.At.{rules_at};
-ghost use Rattle.tree_lines.specs.Node.{cut_seen, leaf_seen, LeafSmall};
+ghost use Rattle.tree_lines.specs.Node.{cut_seen, leaf_seen};
 ghost use Rattle.tree_boxes.specs.Within.{Within, most_bound};
 ghost use Rattle.tree_boxes.specs.Bounds.{box_of, Small};
 ghost use Rattle.tree_nodes.specs.Chain.{most_sum};
+ghost use Rattle.tree_nodes.specs.Counted.{Counted};
 
 use crate::chain::chained;
 use sheet::Sheet;
@@ -88,7 +89,7 @@ fn clash_so(sheet: Sheet, interval: usize, b: Bounds, i: usize, j: usize) -> boo
 
 // Whether a leaf is so.
 pub fn leaf_so(sheet: Sheet, interval: usize, b: Bounds, leaf: Leaf) -> bool
-    requires { InRange sheet × Interval sheet interval × Small b × LeafSmall leaf × LeafKnown sheet.op_count sheet.edge_count (leaf_seen leaf) }
+    requires { InRange sheet × Interval sheet interval × Small b × Counted leaf × LeafKnown sheet.op_count sheet.edge_count (leaf_seen leaf) }
     ensures { Says (So (rules_at sheet interval) (box_of b) (leaf_seen leaf)) result }
 {
     match leaf {

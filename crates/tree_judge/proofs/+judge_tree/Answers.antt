@@ -4,6 +4,7 @@ use Rattle.std.proofs.lemmas.Result.{err_from_is_err_and}
 use Rattle.sheet.specs.Facts.{ops_most}
 use Rattle.denial.specs.At.{rules_at}
 use Rattle.tree_boxes.specs.Bounds.{box_of}
+use Rattle.tree_nodes.specs.Counted.{counted}
 use Rattle.tree_judge.specs.Verdicts.{judges_too_many, judges_malformed, leaf_known, judges_leaf, judges_deep}
 use Rattle.tree_judge.specs.Verdicts.{cut_below, cut_known_lem, judges_first, first_line, judges_second, judges_both}
 use Rattle.tree_judge.proofs.+judge_tree.Goals as goal
@@ -25,7 +26,7 @@ leaf_so-so-requires t c =
       p.0,
       p.1,
       p.2,
-      rw c.in-Closing.is at f.node,
+      counted c.in-Closing.leaf (rw c.in-Closing.is at f.node),
       leaf_known (rules_at c.args.sheet c.args.interval) (box_of c.args.b) c.args.s.now c.args.sheet.op_count c.args.sheet.edge_count
           c.args.depth c.args.line (drop c.args.at c.args.s.now) (omega (arith, c.if-line-gt-MOST_LINES.false)) c.in-Closing.leaf c.in-Some.found.next
           (rw c.in-Closing.is at c.in-Some.ensures.result_value),

@@ -1,6 +1,7 @@
 -- A leaf is one of three.
-use Rattle.std.proofs.Common.{◌-◌, ◌≤◌, length, drop, arith, length-drop, length-take-le}
+use Rattle.std.proofs.Common.{◌≡◌, ◌-◌, ◌≤◌, length, drop, arith, rules, length-drop, length-take-le}
 use Rattle.sheet.specs.Facts.{ops_most}
+use Rattle.scan_list.specs.List.{most_items}
 use Rattle.denial.specs.Passes.{So}
 use Rattle.denial.specs.Tree.{LeafKnown}
 use Rattle.denial.specs.At.{rules_at}
@@ -18,15 +19,17 @@ late_so-requires-clause-in_range c =
     let k = rw c.in-Late.is at p.4 in
     let f = rw c.in-Late.is at p.3 in
     let l = c.in-Late.line in
-    let q : l.count - 1 ≤ length (drop 1 l.values) = omega (arith, length-drop 1 l.values, f.whole, f.count) in
-    (p.0, p.1, p.2, k.0, omega (arith, length-take-le (l.count - 1) (drop 1 l.values) q, f.count))
+    let whole : length l.values ≡ most_items = search rules in
+    let q : l.count - 1 ≤ length (drop 1 l.values) = omega (arith, length-drop 1 l.values, whole, f.1) in
+    (p.0, p.1, p.2, k.0, omega (arith, length-take-le (l.count - 1) (drop 1 l.values) q, f.1))
 
 pub late_so-requires-clause-below : goal.late_so-requires-clause-below
 unfolding LeafKnown
 late_so-requires-clause-below c =
     let k = rw c.in-Late.is at c.requires.4 in
     let f = rw c.in-Late.is at c.requires.3 in
-    rw (tail_of _ _ f.whole f.some) k.1
+    let whole : length c.in-Late.line.values ≡ most_items = search rules in
+    rw (tail_of _ _ whole f.0) k.1
 
 pub clash_so-requires : goal.clash_so-requires
 unfolding LeafKnown
@@ -43,7 +46,8 @@ pub returns-in-Late : goal.returns-in-Late
 unfolding So
 returns-in-Late c =
     let f = rw c.in-Late.is at c.requires.3 in
-    rw c.in-Late.is (rw (tail_of _ _ f.whole f.some) at c.late_so.ensures)
+    let whole : length c.in-Late.line.values ≡ most_items = search rules in
+    rw c.in-Late.is (rw (tail_of _ _ whole f.0) at c.late_so.ensures)
 
 pub returns-in-Clash : goal.returns-in-Clash
 unfolding So
