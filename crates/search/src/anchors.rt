@@ -72,7 +72,7 @@ pub fn anchors_deny(p: Task, blame: Blame) -> bool
         if anchor_denies(p, i, cluster) {
             return true;
         }
-        let next = narrow::joined(done, cluster);
+        let next = narrow::marked_in_either(done, cluster);
         done = next;
     }
     false
