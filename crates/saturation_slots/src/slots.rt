@@ -44,8 +44,11 @@ fn slot_row(row: &Row, interval: usize) -> Slots
     ensures { SlotRow interval row.now result }
 {
     let mut seen = [false; MOST_INTERVALS];
-    for base in (0..MOST_STARTS).step_by(interval) {
+    // Kept: `step_by` passes over each number between two steps, so its turns are the starts and not the blocks.
+    let mut base = 0;
+    while base < MOST_STARTS {
         add_block(&mut seen, row, base, interval);
+        base += interval;
     }
     seen
 }
