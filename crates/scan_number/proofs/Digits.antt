@@ -1,8 +1,8 @@
 -- Digits as the loop takes them, at a place i of the bytes s.
 -- Assumes nothing.
-use Rattle.std.specs.Prelude.{◌≡◌, ℕ, ◌+◌, ◌*◌, ◌≤◌, ◌<◌, List, ◌∷◌, length, drop, get_or, slice_get, None}
-use Rattle.std.proofs.Common.{refl, sym, ap, ◌∙◌, add-one, drop_of_length-le, drop-cons, eq-eqb, ne_eqb, lt-ltb, le-ltb, arith}
-use Rattle.text.specs.Sizes.{three_digits, four_digits}
+use Rattle.std.specs.Prelude.{◌≡◌, ℕ, ◌+◌, ◌*◌, ◌≤◌, ◌<◌, List, ◌∷◌, length, drop, get_or}
+use Rattle.std.proofs.Common.{sym, add-one, drop_of_length-le, drop-cons, ne_eqb, lt-ltb, le-ltb, arith}
+use Rattle.text.specs.Sizes.{three_digits}
 use Rattle.scan_number.specs.Number.{value, malformed, class_of, more_digits, number}
 use Rattle.scan_number.specs.Bytes.{byte_of}
 use Rattle.scan_number.specs.Digits.{value_or}

@@ -1,10 +1,10 @@
 -- A number with its sign, as the code meets it.
 -- Assumes nothing.
-use Rattle.std.specs.Prelude.{◌≡◌, ◌⊎◌, ℕ, suc, zero, ◌+◌, ◌<◌, ◌≤◌, Bool, true, false, List, ◌∷◌, ℤ, nat_abs, length, drop, get_or}
-use Rattle.std.proofs.Common.{refl, sym, ap, ◌∙◌, inl, inr, drop_of_length-le, eq-eqb, ne_eqb, arith}
-use Rattle.text.specs.Sizes.{four_digits}
-use Rattle.laws.specs.Z.{true_false}
-use Rattle.scan_number.specs.Number.{value, malformed, number, int, none, signed_of, signed_number, whole_of}
+use Rattle.std.specs.Prelude.{◌≡◌, ℕ, suc, zero, ◌+◌, ◌<◌, ◌≤◌, Bool, true, false, List, nat_abs, length, drop, get_or}
+use Rattle.std.proofs.Common.{refl, sym, ap, ◌∙◌, drop_of_length-le, eq-eqb, ne_eqb}
+use Rattle.scan_number.specs.Number.{value, malformed, class_of, number, int, none, signed_of, signed_number, whole_of}
+use Rattle.scan_number.specs.Bytes.{byte_of}
+use Rattle.scan_number.specs.declared.Class.TheVariants.{Minus}
 use Rattle.scan_number.proofs.Digits.{front}
 
 pub mag_signed : (g : Bool) (n : ℕ) → nat_abs (signed_of g n) ≡ n
@@ -34,21 +34,25 @@ module _ (bs : List ℕ) (n : ℕ) (rest : List ℕ) (e : value n rest ≡ numbe
 
 -- ---- a number after a minus where one may stand
 
+minus_class : class_of 45 ≡ Minus
+unfolding class_of
+minus_class = refl
+
 pub whole_off : (bs : List ℕ) → signed_number false bs ≡ whole_of false bs
 unfolding whole_of
 whole_off bs = refl
 
 module _ (s : List ℕ) (i : ℕ) where
-  pub whole_minus : i < length s → get_or s i 0 ≡ 45 → signed_number true (drop (i + 1) s) ≡ whole_of true (drop i s)
+  pub whole_minus : i < length s → Minus ≡ class_of (get_or s i 0) → signed_number true (drop (i + 1) s) ≡ whole_of true (drop i s)
   unfolding whole_of
-  whole_minus h b = rw (front s i h, eq-eqb (get_or s i 0) 45 b)
+  whole_minus h e = rw (front s i h, eq-eqb (get_or s i 0) 45 (byte_of _ (sym e)))
 
-  pub whole_end : length s ≤ i → (m : Bool) → signed_number false (drop i s) ≡ whole_of m (drop i s)
-  unfolding whole_of
-  whole_end h false = refl
+  pub whole_end : length s ≤ i → (m : Bool) → none ≡ whole_of m (drop i s)
+  unfolding whole_of signed_number number
+  whole_end h false = rw (drop_of_length-le s h)
   whole_end h true = rw (drop_of_length-le s h)
 
-  pub whole_plain : i < length s → (get_or s i 0 ≡ 45 → ⊥) → (m : Bool) → signed_number false (drop i s) ≡ whole_of m (drop i s)
+  pub whole_plain : i < length s → (class_of (get_or s i 0) ≡ Minus → ⊥) → (m : Bool) → signed_number false (drop i s) ≡ whole_of m (drop i s)
   unfolding whole_of
   whole_plain h n false = refl
-  whole_plain h n true = rw (front s i h, ne_eqb (get_or s i 0) 45 n)
+  whole_plain h n true = rw (front s i h, ne_eqb (get_or s i 0) 45 (λ e. n (ap class_of e ∙ minus_class)))

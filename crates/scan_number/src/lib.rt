@@ -94,8 +94,8 @@ pub fn read_whole(s: &[u8], at: usize, minus: bool) -> Option<(i32, usize)>
     ensures result_value { seen_whole s.now result ≡ whole_of minus (drop at s.now) }
     ensures within_whole { IfSome result (λ r. WithinWhole s.now r) }
 {
-    match s.get(at) {
-        Some(b'-') if minus => read_signed(s, at + 1, true),
+    match classify(*s.get(at)?) {
+        Class::Minus if minus => read_signed(s, at + 1, true),
         _ => read_signed(s, at, false),
     }
 }
