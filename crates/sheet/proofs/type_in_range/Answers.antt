@@ -7,7 +7,7 @@ use Rattle.sheet.proofs.type_in_range.Goals as goal
 pub returns-then-inside_unsigned-2 : goal.returns-then-inside_unsigned-2
 returns-then-inside_unsigned-2 c =
     elim c.if-inside_unsigned.branch [
-      then-inside_unsigned w ↦
+      | then-inside_unsigned w ↦
           last c.inside_unsigned-then-inside_unsigned-2.ensures
           (λ e. record {
             instances = c.inside_unsigned.ensures.yes w.if-inside_unsigned.true;
