@@ -68,6 +68,15 @@ fn line_count(s: Sheet, interval: usize, a: PlanAnswer) -> usize
     HEAD_LINES
 }
 
+// How many bytes the lines have, and so the room that they need in a buffer. No crate calls it.
+pub fn text_length(s: Sheet, interval: usize, a: PlanAnswer) -> usize
+    requires { SmallAnswer s interval a }
+    ensures { result ≡ length (lines_text (interval_lines s interval a)) }
+{
+    let lines = line_count(s, interval, a);
+    text_line::lines_length(lines, &|i| line_at(s, interval, a, i))
+}
+
 // The lines at the front of `out`, which takes them, and how many bytes they have.
 pub fn fill(out: &mut [u8], s: Sheet, interval: usize, a: PlanAnswer) -> usize
     requires { SmallAnswer s interval a × (length (lines_text (interval_lines s interval a)) ≤ length out.old) }

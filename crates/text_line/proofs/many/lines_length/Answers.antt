@@ -3,6 +3,9 @@ use Rattle.std.proofs.Common.{arith}
 use Rattle.text.specs.Filling.{counted_none, counted_more, counted_all}
 use Rattle.text_line.proofs.many.lines_length.Goals as goal
 
+pub loop-i-init : goal.loop-i-init
+loop-i-init g c = record { most = omega arith; lines = λ ls w. counted_none ls }
+
 pub loop-i-preserved : goal.loop-i-preserved
 loop-i-preserved g c =
     let l = c.loop-i in
