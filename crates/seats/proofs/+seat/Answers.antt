@@ -8,6 +8,10 @@ use Rattle.seats.specs.SeatingLaws.{left_clash, left_tried, seating_new}
 use Rattle.seats.proofs.+seat.Goals as goal
 use Rattle.seats.proofs.+seat.Goals.{then-free+in_ok-left-2, else-free}
 
+-- a filling has all operations of the type
+pub returns-then-room-case : goal.returns-then-room-case
+returns-then-room-case t c = record { no = λ f k. let most = c.room.ensures.most f c.args.from k in omega (arith, c.if-room-case.true, most, f.many) }
+
 pub loop-v-preserved : goal.loop-v-preserved
 loop-v-preserved t c =
     let a = c.args in
