@@ -9,7 +9,7 @@ pub loop-i-preserved : goal.loop-i-preserved
 loop-i-preserved c =
     elim c.if-ops-i.branch [
       | then-ops-i w ↦
-        let of_type : vec c.args.ops.resource.now c.loop-i.i ≡ c.args.kind = w.if-ops-i.true in
-        rw w.out-is (grind (arith, common_steps))
+          let of_type : vec c.args.ops.resource.now c.loop-i.i ≡ c.args.kind = w.if-ops-i.true in
+          rw w.out-is (grind (arith, common_steps))
       | else-ops-i w ↦ rw w.out-is (grind (arith, common_steps))
     ]

@@ -9,8 +9,8 @@ loop-w-preserved c =
     let l = c.loop-w in
     elim c.if-slots-b.branch [
       | then-slots-b w ↦
-        let near : l.w < c.args.bar = omega (arith, c.loop-w-test.true, c.min-w-end.ensures) in
-        let inside : l.w < c.args.interval = omega (arith, c.loop-w-test.true, c.min-w-end.ensures) in
-        rw w.row-is (trimmed_next c.args.bar c.args.s c.args.interval l.w c.requires.0 inside near c.slot_at-b.ensures.0 l.invariant w.without_slot.ensures)
+          let near : l.w < c.args.bar = omega (arith, c.loop-w-test.true, c.min-w-end.ensures) in
+          let inside : l.w < c.args.interval = omega (arith, c.loop-w-test.true, c.min-w-end.ensures) in
+          rw w.row-is (trimmed_next c.args.bar c.args.s c.args.interval l.w c.requires.0 inside near c.slot_at-b.ensures.0 l.invariant w.without_slot.ensures)
       | else-slots-b w ↦ rw w.row-is l.invariant
     ]
