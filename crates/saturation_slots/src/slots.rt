@@ -44,11 +44,8 @@ fn slot_row(row: &Row, interval: usize) -> Slots
     ensures { SlotRow interval row.now result }
 {
     let mut seen = [false; MOST_INTERVALS];
-    // Kept: `step_by` passes over each number between two steps, so its turns are the starts and not the blocks.
-    let mut base = 0;
-    while base < MOST_STARTS {
+    for base in (0..MOST_STARTS).step_by(interval) {
         add_block(&mut seen, row, base, interval);
-        base += interval;
     }
     seen
 }

@@ -17,11 +17,8 @@ fn without_slot(row: &mut Row, slot: usize, interval: usize)
     requires { (slot < interval) × (interval ≤ most_intervals) }
     ensures { WithoutSlot slot interval row.old row.new }
 {
-    // Kept: `step_by` passes over each number between two steps, so its turns are all starts and not those of the slot.
-    let mut t = slot;
-    while t < MOST_STARTS {
+    for t in (slot..MOST_STARTS).step_by(interval) {
         row[t] = false;
-        t += interval;
     }
 }
 

@@ -17,13 +17,13 @@ goes_on-requires c =
           (record { from = refl; weight = grind (arith, common_steps); to = grind (arith, common_steps) }) (search rules) (search rules),
     )
 
+pub loop-e-preserved : goal.loop-e-preserved
+loop-e-preserved c = passed_more {g = web_of c.args.net} (at c.args.row) _ {e = c.loop-e.e} {j = c.from-j.result} c.loop-e.invariant c.goes_on.ensures c.if-goes_on.false
+    (record { from = grind (arith, common_steps); weight = grind (arith, common_steps); to = grind (arith, common_steps) }) (search rules)
+
 pub returns-then-goes_on : goal.returns-then-goes_on
 returns-then-goes_on c =
     let inv = rw (kept c.ranges.s) at c.loop-e.invariant in
     let said = rw (kept c.ranges.s) at c.goes_on.ensures in
     picked_here (at c.args.row) _ {j = c.from-j.result} inv said c.if-goes_on.true
     (record { from = grind (arith, common_steps); weight = grind (arith, common_steps); to = grind (arith, common_steps) }) (search rules) (search rules)
-
-pub loop-e-preserved : goal.loop-e-preserved
-loop-e-preserved c = passed_more {g = web_of c.args.net} (at c.args.row) _ {e = c.loop-e.e} {j = c.from-j.result} c.loop-e.invariant c.goes_on.ensures c.if-goes_on.false
-    (record { from = grind (arith, common_steps); weight = grind (arith, common_steps); to = grind (arith, common_steps) }) (search rules)
