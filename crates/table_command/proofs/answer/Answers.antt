@@ -1,4 +1,4 @@
-use Rattle.std.proofs.Common.{◌≡◌, ◌≤◌, List, length, refl, sym, ap, subst, ◌∙◌, arith}
+use Rattle.std.proofs.Common.{◌≡◌, ◌≤◌, refl, sym, ap, subst, ◌∙◌, arith}
 use Rattle.text.specs.Answers.{refusal_text}
 use Rattle.text.specs.Bounds.{answer_most_lem}
 use Rattle.text.specs.PutLaws.{put_as}
@@ -36,7 +36,7 @@ put_refusal-requires-in-Err c =
     let e : c.read-read.result.answer ≡ (read_of c.args.bytes.now).answer = ap (λ (x : ReadAnswer). x.answer) c.read-read.ensures in
     let e2 : c.read-read.result.sheet ≡ (read_of c.args.bytes.now).sheet = ap (λ (x : ReadAnswer). x.sheet) c.read-read.ensures in
     let ok : InRange c.read-read.result.sheet = subst InRange (sym e2) (read_in_range c.args.bytes.now (sym e ∙ c.if-refusal-ne0.false)) in
-    rw c.number.ensures (interval_small ok c.in-Err.ensures)
+    omega (arith, c.number.ensures, interval_small ok c.in-Err.ensures)
 
 pub returns-in-Err : goal.returns-in-Err
 returns-in-Err c =
@@ -46,7 +46,7 @@ returns-in-Err c =
     let e2 : c.read-read.result.sheet ≡ (read_of s.bytes.now).sheet = ap (λ (x : ReadAnswer). x.sheet) c.read-read.ensures in
     let ok : InRange c.read-read.result.sheet = subst InRange (sym e2) (read_in_range s.bytes.now (sym e ∙ c.if-refusal-ne0.false)) in
     let n = c.number.result in
-    let h : n ≤ 999 = rw c.number.ensures (interval_small ok c.in-Err.ensures) in
+    let h : n ≤ 999 = omega (arith, c.number.ensures, interval_small ok c.in-Err.ensures) in
     let all = sound s.script.now (sym c.line_at_fault.ensures ∙ c.if-line_at_fault-ne0.false) in
     put_as refl (printed s.script.now all.1 (at_yes (sym e ∙ c.if-refusal-ne0.false)
     (subst (λ (x : Sheet). AtInterval refusal_text x s.interval (TableText x s.interval all.0) (refusal_text n)) e2
