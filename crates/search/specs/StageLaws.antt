@@ -41,3 +41,10 @@ module _ {q : Task} {d : List (List Bool)} (bounded : Bool) {r : Bool} (answer :
     -- none of a cluster alone
     pub anchor_none : (i : ℕ) (c : List Bool) → TaskOk p → i < p.ops → Cluster p i c → Anchored p i c q → AnchorRows i c d → Denied p r
     anchor_none i c ok hi near w rows = record { denied = λ e t h. searched e (moved c i t) (w.kept t h) (subst (λ (k : ℕ). In k d (moved c i t)) (sym w.ops_same) (moved_inside p ok i hi c near t h rows)) }
+
+-- where nothing was denied, nothing is said of plans
+pub not_denied : {p : Task} → Denied p false
+not_denied = record { denied = λ e. true_false (sym e) }
+
+pub not_emptied : {p : Task} {d : List (List Bool)} → Emptied p d false
+not_emptied = record { none = λ e. true_false (sym e) }
