@@ -36,8 +36,8 @@ pub fn type_at(sheet: &Sheet, resource: usize) -> ResourceType
     type_in(&sheet.types, resource)
 }
 
-// The type of an operation; past the array it is 0. The array is taken out of the sheet first, here and in `type_of`: to
-// read at an index of a sheet by value copies it all.
+// The type of an operation; past the array it is 0. The array is taken out of the sheet first, here and in `type_of`:
+// to read at an index of a sheet by value copies it all.
 pub fn resource_of(sheet: Sheet, op: usize) -> usize
     ensures { result ≡ (op_at sheet op).resource }
 {

@@ -1,6 +1,7 @@
 // One line of text, made and written into a lent buffer; and a whole text. `text` has the keys, the numbers and what
-// a line is: text/specs/Line.antt. A crate of its own for the check's time. `lines`, `writer` and `interval_lines`, which
-// call the functions of many lines, give a closure that may be called at each place and some hundred places at most.
+// a line is: text/specs/Line.antt. A crate of its own for the check's time. `lines`, `writer` and `interval_lines`,
+// which call the functions of many lines, give a closure that may be called at each place and some hundred places at
+// most.
 #![tactic(auto)]
 
 ghost use Rattle.std.specs.Prelude.{◌≡◌, [], ◌∷◌, ◌+◌, ◌≤◌, ◌<◌, min, pos, length, take};
