@@ -7,7 +7,7 @@ use Rattle.interval_lines.specs.Small.{small}
 use Rattle.report.specs.IntervalText.{IntervalText, refusal, made}
 use Rattle.report.proofs.interval_text.Goals as goal
 
--- n is the number of the refusal
+-- of a refused sheet or interval, by its answer
 told : {s : Sheet} {L n m : ℕ} {old : List ℕ} → n ≡ m → AskedAt s L m → (m ≡ 0 → ⊥) → IntervalText s L old (refused n) old
 told {s} {L} e a z = refusal (subst (AskedAt s L) (sym e) a) (λ w. z (sym e ∙ w))
 
